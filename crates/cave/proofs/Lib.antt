@@ -1,0 +1,6 @@
+pub mod Feedback
+pub mod Wide
+pub mod Computed
+pub mod Permutes
+pub mod Halves
+pub mod Lawful

@@ -113,3 +113,9 @@ unfolding after-rounds round rotated
 registers-below zero m p i = absurd (not-suc-le-zero p)
 registers-below (suc zero) m p i = shuffled-below 0 (rotated (mixed m .registers)) (λ j. bytes-below 16 _ j) i
 registers-below (suc (suc n)) m p i = registers-below (suc n) (round (suc n) m) (omega arith) i
+
+pub registers-sixteen : (n : ℕ) (m : CaveState) → 0 < n → length (after-rounds n m .registers) ≡ 16
+unfolding after-rounds round
+registers-sixteen zero m p = absurd (not-suc-le-zero p)
+registers-sixteen (suc zero) m p = length-shuffled 0 (rotated (mixed m .registers))
+registers-sixteen (suc (suc n)) m p = registers-sixteen (suc n) (round (suc n) m) (omega arith)

@@ -12,3 +12,8 @@ wide (suc n) xs = wide n xs * 256 + getD xs n 0
 abbrev pub bytes : ℕ → ℕ → List ℕ
 bytes zero w = []
 bytes (suc n) w = w / 256 ^ n % 256 ∷ bytes n w
+
+-- n bytes of xs from place i on
+abbrev pub part : List ℕ → ℕ → ℕ → List ℕ
+part xs i zero = []
+part xs i (suc n) = getD xs i 0 ∷ part xs (i + 1) n

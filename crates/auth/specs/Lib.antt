@@ -1,3 +1,4 @@
 pub mod Loading
 pub mod Reading
 pub mod Keys
+pub mod Uses

@@ -4,6 +4,7 @@ ghost use Rattle.cave.specs.Law.{Answers-by};
 ghost use Rattle.cave.specs.Rounds.{after-rounds};
 ghost use Rattle.auth.specs.Loading.{akey-loading, ssd-loading, signature-loading};
 ghost use Rattle.auth.specs.Reading.{eighteen, ssd-of, signed-of, Reads-18};
+ghost use Rattle.auth.specs.Uses.{akey-check-of, new-ssd-of, signature-of};
 ghost use lib.Bits.{bitXor};
 use crate::load::blend;
 use crate::load::load_state;
@@ -117,7 +118,7 @@ pub impl CaveUse for AuthSignature as AuthSignatureUse {
 
 // The check of an A-key: 18 bits.
 pub fn akey_check(of: AKey) -> u32
-    ensures result { λ r. ⌜ r ≡ eighteen (after-rounds 8 (akey-loading of)) ⌝ }
+    ensures result { λ r. ⌜ r ≡ akey-check-of of ⌝ }
     ensures lawful { λ r. ⌜ Answers-by (akey-loading of) eighteen r ⌝ }
     ensures bits { λ r. ⌜ Reads-18 (after-rounds 8 (akey-loading of)) r ⌝ }
 {
@@ -126,7 +127,7 @@ pub fn akey_check(of: AKey) -> u32
 
 // New shared secret data.
 pub fn new_ssd(of: Renewal) -> Ssd
-    ensures result { λ r. ⌜ r ≡ ssd-of (after-rounds 8 (ssd-loading of)) ⌝ }
+    ensures result { λ r. ⌜ r ≡ new-ssd-of of ⌝ }
     ensures lawful { λ r. ⌜ Answers-by (ssd-loading of) ssd-of r ⌝ }
 {
     run::<SsdGeneration>(of)
@@ -134,7 +135,7 @@ pub fn new_ssd(of: Renewal) -> Ssd
 
 // The authentication signature of a challenge, with what its run leaves.
 pub fn sign(of: Challenge) -> Signed
-    ensures result { λ r. ⌜ r ≡ signed-of (after-rounds 8 (signature-loading of)) ⌝ }
+    ensures result { λ r. ⌜ r ≡ signature-of of ⌝ }
     ensures lawful { λ r. ⌜ Answers-by (signature-loading of) signed-of r ⌝ }
     ensures bits { λ r. ⌜ Reads-18 (after-rounds 8 (signature-loading of)) (r .signature) ⌝ }
 {

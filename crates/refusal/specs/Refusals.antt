@@ -1,0 +1,22 @@
+-- The table of refusals: the number of each case, and the values told with it.
+use Prim.Native.Nat.{ℕ}
+use mathlib.Core.List.{List, [], _∷_}
+use Rattle.refusal.specs.declared.Refusal.{Refusal}
+use Rattle.refusal.specs.declared.Refusal.the-variants.{NotADigit, WrongCount, CheckDiffers}
+use Rattle.refusal.specs.declared.Told.{Told}
+use Rattle.refusal.specs.declared.Told.the-variants.{Nothing, One}
+
+abbrev pub number-of : Refusal → ℕ
+number-of (NotADigit index) = 1
+number-of (WrongCount count) = 2
+number-of CheckDiffers = 3
+
+abbrev pub told-of : Refusal → List ℕ
+told-of (NotADigit index) = index ∷ []
+told-of (WrongCount count) = count ∷ []
+told-of CheckDiffers = []
+
+-- the list that a `Told` stands for
+abbrev pub values : Told → List ℕ
+values Nothing = []
+values (One value) = value ∷ []

@@ -1,0 +1,20 @@
+-- What a hex field of a type's width is read as.
+use Prim.Native.Nat.{ℕ}
+use mathlib.Core.Bool.{cond}
+use mathlib.Core.List.{List}
+use Rattle.std.specs.declared.option.Option.{Option}
+use Rattle.std.specs.declared.option.Option.the-variants.{Some, None}
+use Rattle.cave.specs.Bytes.{wide}
+use Rattle.auth.specs.declared.types.AuthData.{AuthData}
+use Rattle.auth.specs.declared.types.RandSsd.{RandSsd}
+use Rattle.hex.specs.Hex.{is-field, field-bytes}
+
+-- a number of n bytes
+abbrev pub number-read : List ℕ → ℕ → Option ℕ
+number-read bs n = cond (is-field bs n) (Some (wide n (field-bytes bs n))) None
+
+abbrev pub auth-data-read : List ℕ → Option AuthData
+auth-data-read bs = cond (is-field bs 3) (Some (record { 0 = field-bytes bs 3 })) None
+
+abbrev pub rand-ssd-read : List ℕ → Option RandSsd
+rand-ssd-read bs = cond (is-field bs 7) (Some (record { 0 = field-bytes bs 7 })) None

@@ -1,0 +1,60 @@
+// The calculations that a line can ask for, and their answers.
+ghost use mathlib.Core.Path.{_≡_};
+ghost use Rattle.tr45.specs.Answers.{answer-of};
+use auth::keys::call_keys;
+use auth::keys::cmea_key;
+use auth::types::AKey;
+use auth::types::Challenge;
+use auth::types::OpeningRecord;
+use auth::types::Renewal;
+use auth::types::Signed;
+use auth::types::Ssd;
+use auth::uses::akey_check;
+use auth::uses::new_ssd;
+use auth::uses::sign;
+use cave::lfsr::lfsr_cycle;
+use examples::self_test;
+use std::fmt;
+
+#[derive(Clone, Copy)]
+pub enum Calculation {
+    Lfsr(u32),
+    // key digits that were read
+    Digits(u64),
+    Check(AKey),
+    NewSsd(Renewal),
+    Sign(Challenge),
+    SignLeft(Challenge),
+    CmeaKey(OpeningRecord),
+    VoiceMask(OpeningRecord),
+    SelfTest,
+}
+
+#[derive(Clone, Copy)]
+pub enum Answer {
+    Word(u32),
+    Key(u64),
+    EighteenBits(u32),
+    Ssd(Ssd),
+    Signed(Signed),
+    CmeaKey([u8; 8]),
+    VoiceMask([u8; 65]),
+    Passed(bool),
+}
+
+// The answer to a calculation.
+pub fn perform(calculation: Calculation) -> Answer
+    ensures { λ r. ⌜ r ≡ answer-of calculation ⌝ }
+{
+    match calculation {
+        Calculation::Lfsr(lfsr) => Answer::Word(lfsr_cycle(lfsr)),
+        Calculation::Digits(key) => Answer::Key(key),
+        Calculation::Check(of) => Answer::EighteenBits(akey_check(of)),
+        Calculation::NewSsd(of) => Answer::Ssd(new_ssd(of)),
+        Calculation::Sign(of) => Answer::EighteenBits(sign(of).signature),
+        Calculation::SignLeft(of) => Answer::Signed(sign(of)),
+        Calculation::CmeaKey(of) => Answer::CmeaKey(cmea_key(of)),
+        Calculation::VoiceMask(of) => Answer::VoiceMask(call_keys(of).voice_mask),
+        Calculation::SelfTest => Answer::Passed(self_test()),
+    }
+}

@@ -1,0 +1,3 @@
+mod calculation;
+
+fn main() {}

@@ -11,7 +11,7 @@ pub fn lfsr_cycle(lfsr: u32) -> u32
 }
 
 // 1 added to D, with no carry into C.
-pub fn raise_d(lfsr: u32) -> u32
+pub(crate) fn raise_d(lfsr: u32) -> u32
     ensures { λ r. ⌜ r ≡ d-raised lfsr ⌝ }
 {
     lfsr - lfsr % 256 + (lfsr % 256 + 1) % 256

@@ -2,7 +2,7 @@
 use mathlib.Core.Bool.{true}
 use Rattle.cave.specs.Lfsr.{cycled}
 use Rattle.auth.specs.Uses.{akey-check-of, new-ssd-of, signature-of}
-use Rattle.auth.specs.Keys.{cmea-key-of, voice-mask-of}
+use Rattle.auth.specs.Keys.{cmea-key-of, call-keys-of}
 use Rattle.tr45.specs.declared.calculation.Calculation.{Calculation}
 use Rattle.tr45.specs.declared.calculation.Calculation.the-variants as asked
 use Rattle.tr45.specs.declared.calculation.Answer.{Answer}
@@ -16,5 +16,5 @@ answer-of (asked.NewSsd of) = told.Ssd (new-ssd-of of)
 answer-of (asked.Sign of) = told.EighteenBits (signature-of of .signature)
 answer-of (asked.SignLeft of) = told.Signed (signature-of of)
 answer-of (asked.CmeaKey of) = told.CmeaKey (cmea-key-of of)
-answer-of (asked.VoiceMask of) = told.VoiceMask (voice-mask-of of)
+answer-of (asked.VoiceMask of) = told.VoiceMask (call-keys-of of .«voice_mask»)
 answer-of asked.SelfTest = told.Passed true

@@ -43,7 +43,7 @@ pub enum Answer {
 }
 
 // The answer to a calculation.
-pub fn perform(calculation: Calculation) -> Answer
+pub(crate) fn perform(calculation: Calculation) -> Answer
     ensures { λ r. ⌜ r ≡ answer-of calculation ⌝ }
 {
     match calculation {
@@ -56,5 +56,29 @@ pub fn perform(calculation: Calculation) -> Answer
         Calculation::CmeaKey(of) => Answer::CmeaKey(cmea_key(of)),
         Calculation::VoiceMask(of) => Answer::VoiceMask(call_keys(of).voice_mask),
         Calculation::SelfTest => Answer::Passed(self_test()),
+    }
+}
+
+// Bytes in hex.
+fn write_hex<W: fmt::Write>(f: &mut fmt::Formatter<W>, bytes: &[u8]) -> fmt::Result {
+    for byte in bytes {
+        write!(f, "{byte:02X}")?;
+    }
+    Ok(())
+}
+
+pub impl fmt::Display for Answer as AnswerDisplay {
+    fn fmt<W: fmt::Write>(&self, f: &mut fmt::Formatter<W>) -> fmt::Result {
+        match self {
+            Answer::Word(word) => write!(f, "{word:08X}"),
+            Answer::Key(key) => write!(f, "{key:016X}"),
+            Answer::EighteenBits(bits) => write!(f, "{bits:05X}"),
+            Answer::Ssd(ssd) => write!(f, "{:016X} {:016X}", ssd.a, ssd.b),
+            Answer::Signed(s) => write!(f, "{:05X} {:08X} {:02X} {:02X}", s.signature, s.lfsr, s.offset1, s.offset2),
+            Answer::CmeaKey(key) => write_hex(f, key),
+            Answer::VoiceMask(mask) => write_hex(f, mask),
+            Answer::Passed(true) => write!(f, "ok"),
+            Answer::Passed(false) => write!(f, "failed"),
+        }
     }
 }

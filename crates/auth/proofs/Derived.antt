@@ -13,11 +13,11 @@ use Rattle.auth.specs.declared.types.OpeningRecord.{OpeningRecord}
 
 module _ (o : OpeningRecord) where
   loaded-sixteen : length (opening-loading o .registers) ≡ 16
-  unfolding opening-loading loading
+  unfolding loading
   loaded-sixteen = refl
 
   rolled-sixteen : (n : ℕ) → length (rolled (o .rand) (iteration o n) .registers) ≡ 16
-  unfolding rolled iteration
+  unfolding iteration
   rolled-sixteen zero = registers-sixteen 8 (opening-loading o) (omega arith)
   rolled-sixteen (suc n) = registers-sixteen 4 (rolled (o .rand) (iteration o n)) (omega arith)
 

@@ -15,13 +15,13 @@ use Rattle.auth.specs.declared.types.CallKeys.{CallKeys}
 
 -- the first loading: as a signature's, over SSD_B, but from the LFSR that the opening signature left (RAND where that blends to zero),
 -- and with the offsets that it left
-unfoldable pub opening-loading : OpeningRecord → CaveState
+abbrev pub opening-loading : OpeningRecord → CaveState
 opening-loading o =
     let m = loading (if-zero (blended (o .lfsr) (o .«ssd_b»)) (o .rand)) (o .«ssd_b») (o .«auth_data» .0) (o .esn) in
     record { registers = m .registers; lfsr = m .lfsr; offset1 = o .offset1; offset2 = o .offset2 }
 
 -- the roll-over: the LFSR becomes R0, R1, R14 and R15, or RAND where they are zero
-unfoldable pub rolled : ℕ → CaveState → CaveState
+abbrev pub rolled : ℕ → CaveState → CaveState
 rolled rand m =
     let r : ℕ → ℕ = λ i. getD (m .registers) i 0 in
     record { registers = m .registers; lfsr = if-zero (wide 4 (r 0 ∷ r 1 ∷ r 14 ∷ r 15 ∷ [])) rand; offset1 = m .offset1; offset2 = m .offset2 }
@@ -45,7 +45,7 @@ cmea-key-of o = map (key-byte (iteration o)) (counting 0 8)
 unfoldable pub voice-mask-of : OpeningRecord → List ℕ
 voice-mask-of o = map (mask-byte (iteration o)) (counting 0 65)
 
-unfoldable pub call-keys-of : OpeningRecord → CallKeys
+abbrev pub call-keys-of : OpeningRecord → CallKeys
 call-keys-of o = record { «cmea_key» = cmea-key-of o; «voice_mask» = voice-mask-of o }
 
 -- the states `at` are those of a call's iterations: each is a whole run of CAVE from its loading

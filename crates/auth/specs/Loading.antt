@@ -24,7 +24,7 @@ abbrev pub blended : ℕ → ℕ → ℕ
 blended x secret = bitXor (bitXor x (secret / 2 ^ 32)) (secret % 2 ^ 32)
 
 -- A-key check: the LFSR is the key's upper half, or the ESN; the data are the key's lowest 24 bits
-unfoldable pub akey-loading : AKey → CaveState
+abbrev pub akey-loading : AKey → CaveState
 akey-loading q = loading (if-zero (q .key / 2 ^ 32) (q .esn)) (q .key) (bytes 3 (q .key)) (q .esn)
 
 -- the lower 32 bits of RANDSSD
@@ -32,9 +32,9 @@ abbrev pub lower : Renewal → ℕ
 lower q = wide 4 (part (q .«rand_ssd» .0) 3 4)
 
 -- SSD: the LFSR is RANDSSD's lower 32 bits blended with the A-key, or alone; the data are RANDSSD's upper 24 bits
-unfoldable pub ssd-loading : Renewal → CaveState
-ssd-loading q = loading (if-zero (blended (lower q) (q .key)) (lower q)) (q .key) (q .«rand_ssd» .0) (q .esn)
+abbrev pub ssd-loading : Renewal → CaveState
+ssd-loading q = loading (if-zero (blended (lower q) (q .key)) (lower q)) (q .key) (part (q .«rand_ssd» .0) 0 3) (q .esn)
 
 -- signature: the LFSR is the challenge blended with the secret, or alone; the data are AUTH_DATA
-unfoldable pub signature-loading : Challenge → CaveState
+abbrev pub signature-loading : Challenge → CaveState
 signature-loading q = loading (if-zero (blended (q .rand) (q .secret)) (q .rand)) (q .secret) (q .«auth_data» .0) (q .esn)

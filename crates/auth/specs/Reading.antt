@@ -23,9 +23,9 @@ pub record Reads-18 (m : CaveState) (r : ℕ) : Type 0 where
   pub low : r % 2 ^ 8 ≡ crossed m 2 15
 
 -- SSD_A is R0 to R7, SSD_B is R8 to R15
-unfoldable pub ssd-of : CaveState → Ssd
+abbrev pub ssd-of : CaveState → Ssd
 ssd-of m = record { a = wide 8 (part (m .registers) 0 8); b = wide 8 (part (m .registers) 8 8) }
 
 -- a signature with what its run leaves
-unfoldable pub signed-of : CaveState → Signed
+abbrev pub signed-of : CaveState → Signed
 signed-of m = record { signature = eighteen m; lfsr = m .lfsr; offset1 = m .offset1; offset2 = m .offset2 }

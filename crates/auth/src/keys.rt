@@ -2,8 +2,9 @@
 // left, then up to thirteen of four rounds. Before each of these the LFSR is loaded anew from the registers, the roll-over.
 ghost use mathlib.Core.Path.{_≡_};
 ghost use Rattle.cave.specs.Rounds.{after-rounds};
-ghost use Rattle.auth.specs.Keys.{rolled, iteration, cmea-key-of, voice-mask-of, call-keys-of, Keys-by, Masks-by};
+ghost use Rattle.auth.specs.Keys.{opening-loading, rolled, iteration, cmea-key-of, voice-mask-of, call-keys-of, Keys-by, Masks-by};
 use crate::load::blend;
+use crate::load::join_4;
 use crate::load::load_state;
 use crate::load::or_if_zero;
 use crate::types::CallKeys;
@@ -14,7 +15,7 @@ use cave::state::Rounds;
 
 // The first iteration.
 fn open_state(of: OpeningRecord) -> CaveState
-    ensures { λ r. ⌜ r ≡ iteration of 0 ⌝ }
+    ensures { λ r. ⌜ r ≡ after-rounds 8 (opening-loading of) ⌝ }
 {
     let lfsr = or_if_zero(blend(of.lfsr, of.ssd_b), of.rand);
     let fresh = load_state(lfsr, of.ssd_b, of.auth_data.0, of.esn);
@@ -31,7 +32,7 @@ fn roll(rand: u32, m: CaveState) -> CaveState
     ensures { λ r. ⌜ r ≡ rolled rand m ⌝ }
 {
     let r = m.registers;
-    let lfsr = u32::from_be_bytes([r[0], r[1], r[14], r[15]]);
+    let lfsr = join_4([r[0], r[1], r[14], r[15]]);
     CaveState {
         lfsr: or_if_zero(lfsr, rand),
         ..m

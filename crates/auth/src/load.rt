@@ -1,5 +1,6 @@
 // What the loadings of CAVE have in common.
 ghost use mathlib.Core.Path.{_≡_};
+ghost use Rattle.cave.specs.Bytes.{wide};
 ghost use Rattle.auth.specs.Loading.{loading, if-zero, blended};
 use cave::state::CaveState;
 
@@ -50,4 +51,17 @@ pub(crate) fn blend(x: u32, secret: u64) -> u32
     ensures { λ r. ⌜ r ≡ blended x secret ⌝ }
 {
     x ^ (secret >> 32) as u32 ^ (secret % 0x1_0000_0000) as u32
+}
+
+// Four bytes as one number, and eight.
+pub(crate) fn join_4(bytes: [u8; 4]) -> u32
+    ensures { λ r. ⌜ r ≡ wide 4 bytes ⌝ }
+{
+    u32::from_be_bytes(bytes)
+}
+
+pub(crate) fn join_8(bytes: [u8; 8]) -> u64
+    ensures { λ r. ⌜ r ≡ wide 8 bytes ⌝ }
+{
+    u64::from_be_bytes(bytes)
 }

@@ -7,6 +7,8 @@ ghost use Rattle.auth.specs.Reading.{eighteen, ssd-of, signed-of, Reads-18};
 ghost use Rattle.auth.specs.Uses.{akey-check-of, new-ssd-of, signature-of};
 ghost use lib.Bits.{bitXor};
 use crate::load::blend;
+use crate::load::join_4;
+use crate::load::join_8;
 use crate::load::load_state;
 use crate::load::or_if_zero;
 use crate::types::AKey;
@@ -76,7 +78,7 @@ pub impl CaveUse for SsdGeneration as SsdGenerationUse {
 
     fn load(input: Renewal) -> CaveState {
         let r = input.rand_ssd.0;
-        let lower = u32::from_be_bytes([r[3], r[4], r[5], r[6]]);
+        let lower = join_4([r[3], r[4], r[5], r[6]]);
         let lfsr = or_if_zero(blend(lower, input.key), lower);
         load_state(lfsr, input.key, [r[0], r[1], r[2]], input.esn)
     }
@@ -84,8 +86,8 @@ pub impl CaveUse for SsdGeneration as SsdGenerationUse {
     fn read(last: CaveState) -> Ssd {
         let r = last.registers;
         Ssd {
-            a: u64::from_be_bytes([r[0], r[1], r[2], r[3], r[4], r[5], r[6], r[7]]),
-            b: u64::from_be_bytes([r[8], r[9], r[10], r[11], r[12], r[13], r[14], r[15]]),
+            a: join_8([r[0], r[1], r[2], r[3], r[4], r[5], r[6], r[7]]),
+            b: join_8([r[8], r[9], r[10], r[11], r[12], r[13], r[14], r[15]]),
         }
     }
 }

@@ -87,7 +87,6 @@ module _ (start : CaveState) (sixteen : length (start .registers) ≡ 16) where
       }
 
   pub round-law : (k : ℕ) → k < 8 → Round k start (round k start)
-  unfolding round
   round-law k h =
       record {
         between = mixed start;
@@ -109,13 +108,13 @@ run-law (suc n) m h s =
 
 -- after a round every register is a byte, whatever it was before
 pub registers-below : (n : ℕ) (m : CaveState) → 0 < n → (i : ℕ) → getD (after-rounds n m .registers) i 0 < 256
-unfolding after-rounds round rotated
+unfolding after-rounds rotated
 registers-below zero m p i = absurd (not-suc-le-zero p)
 registers-below (suc zero) m p i = shuffled-below 0 (rotated (mixed m .registers)) (λ j. bytes-below 16 _ j) i
 registers-below (suc (suc n)) m p i = registers-below (suc n) (round (suc n) m) (omega arith) i
 
 pub registers-sixteen : (n : ℕ) (m : CaveState) → 0 < n → length (after-rounds n m .registers) ≡ 16
-unfolding after-rounds round
+unfolding after-rounds
 registers-sixteen zero m p = absurd (not-suc-le-zero p)
 registers-sixteen (suc zero) m p = length-shuffled 0 (rotated (mixed m .registers))
 registers-sixteen (suc (suc n)) m p = registers-sixteen (suc n) (round (suc n) m) (omega arith)

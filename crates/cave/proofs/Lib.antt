@@ -1,4 +1,3 @@
-pub mod Feedback
 pub mod Wide
 pub mod Computed
 pub mod Permutes

@@ -10,11 +10,11 @@ abbrev pub feedback : ℕ → ℕ
 feedback w = (bit 22 w + bit 2 w + bit 1 w + bit 0 w) % 2
 
 -- one cycle: a shift right by one, with the feedback of the old bits as the new top bit
-unfoldable pub cycled : ℕ → ℕ
+abbrev pub cycled : ℕ → ℕ
 cycled w = feedback w * 2 ^ 31 + w / 2
 
 -- 1 added to D modulo 256, with no carry into C
-unfoldable pub d-raised : ℕ → ℕ
+abbrev pub d-raised : ℕ → ℕ
 d-raised w = w - w % 256 + (w % 256 + 1) % 256
 
 -- the bytes A and B

@@ -24,7 +24,7 @@ unfoldable pub shuffled : ℕ → List ℕ → List ℕ
 shuffled k xs = turns (put k xs) 16 (replicate 16 0)
 
 -- the round of index k: mix, rotate, shuffle by row k
-unfoldable pub round : ℕ → CaveState → CaveState
+abbrev pub round : ℕ → CaveState → CaveState
 round k m =
     let n = mixed m in
     record { registers = shuffled k (rotated (n .registers)); lfsr = n .lfsr; offset1 = n .offset1; offset2 = n .offset2 }

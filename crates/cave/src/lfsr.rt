@@ -6,8 +6,8 @@ ghost use Rattle.cave.specs.Lfsr.{cycled, d-raised};
 pub fn lfsr_cycle(lfsr: u32) -> u32
     ensures { λ r. ⌜ r ≡ cycled lfsr ⌝ }
 {
-    let top = ((lfsr >> 22) ^ (lfsr >> 2) ^ (lfsr >> 1) ^ lfsr) & 1;
-    (lfsr >> 1) | (top << 31)
+    let taps = (lfsr >> 22) % 2 + (lfsr >> 2) % 2 + (lfsr >> 1) % 2 + lfsr % 2;
+    taps % 2 * 0x8000_0000 + (lfsr >> 1)
 }
 
 // 1 added to D, with no carry into C.

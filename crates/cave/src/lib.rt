@@ -2,7 +2,7 @@
 // rounds. Public: `cave` (a run), `lfsr_cycle` (one cycle of the LFSR), and in `uses` the trait for a use of CAVE with the one
 // eight-round run for every use.
 ghost use mathlib.Core.Path.{_≡_};
-ghost use Prim.Native.Nat.{_<_};
+ghost use Prim.Native.Nat.{_<_, _≤_};
 ghost use Rattle.cave.specs.Law.{Run};
 ghost use Rattle.cave.specs.Mix.{mixed};
 ghost use Rattle.cave.specs.Rounds.{rotated, shuffled, round, after-rounds, how-many};
@@ -97,19 +97,28 @@ fn run_round(k: u8, m: CaveState) -> CaveState
     }
 }
 
-// A run of CAVE: the rounds from the highest index down to 0.
-pub fn cave(start: CaveState, count: Rounds) -> CaveState
-    ensures result { λ r. ⌜ r ≡ after-rounds (how-many count) start ⌝ }
-    ensures lawful { λ r. ⌜ Run (how-many count) start r ⌝ }
+// The rounds from index n - 1 down to 0.
+fn run_down(start: CaveState, n: u8) -> CaveState
+    requires { ⌜ n ≤ 8 ⌝ }
+    ensures result { λ r. ⌜ r ≡ after-rounds n start ⌝ }
+    ensures lawful { λ r. ⌜ Run n start r ⌝ }
     ensures rows { λ _. ⌜ Rows-permute ⌝ }
 {
-    let n = match count {
-        Rounds::Four => 4,
-        Rounds::Eight => 8,
-    };
     let mut m = start;
     for k in (0..n).rev() {
         m = run_round(k, m);
     }
     m
+}
+
+// A run of CAVE.
+pub fn cave(start: CaveState, count: Rounds) -> CaveState
+    ensures result { λ r. ⌜ r ≡ after-rounds (how-many count) start ⌝ }
+    ensures lawful { λ r. ⌜ Run (how-many count) start r ⌝ }
+    ensures rows { λ _. ⌜ Rows-permute ⌝ }
+{
+    match count {
+        Rounds::Four => run_down(start, 4),
+        Rounds::Eight => run_down(start, 8),
+    }
 }

@@ -27,6 +27,9 @@ pub(crate) fn print_refusal(rt: &impl Print, refusal: Refusal) -> io::Result<()>
     match refusal {
         Refusal::NotADigit { index } => println!(rt, "the byte at index {index} is no digit"),
         Refusal::WrongCount { count } => println!(rt, "{count} digits, and not 6 to 26"),
-        Refusal::CheckDiffers => println!(rt, "the last six digits are not the check of the others"),
+        Refusal::CheckDiffers => println!(
+            rt,
+            "the last six digits are not the check of the others"
+        ),
     }
 }

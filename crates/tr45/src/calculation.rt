@@ -74,7 +74,11 @@ pub impl fmt::Display for Answer as AnswerDisplay {
             Answer::Key(key) => write!(f, "{key:016X}"),
             Answer::EighteenBits(bits) => write!(f, "{bits:05X}"),
             Answer::Ssd(ssd) => write!(f, "{:016X} {:016X}", ssd.a, ssd.b),
-            Answer::Signed(s) => write!(f, "{:05X} {:08X} {:02X} {:02X}", s.signature, s.lfsr, s.offset1, s.offset2),
+            Answer::Signed(s) => write!(
+                f,
+                "{:05X} {:08X} {:02X} {:02X}",
+                s.signature, s.lfsr, s.offset1, s.offset2
+            ),
             Answer::CmeaKey(key) => write_hex(f, key),
             Answer::VoiceMask(mask) => write_hex(f, mask),
             Answer::Passed(true) => write!(f, "ok"),

@@ -49,11 +49,15 @@ fn esn(words: &mut Words) -> Result<u32, Fault> {
 }
 
 fn secret(words: &mut Words) -> Result<u64, Fault> {
-    words.next_u64().ok_or(Fault::Field("KEY or SSD: 16 hex digits"))
+    words
+        .next_u64()
+        .ok_or(Fault::Field("KEY or SSD: 16 hex digits"))
 }
 
 fn rand_ssd(words: &mut Words) -> Result<RandSsd, Fault> {
-    words.next_rand_ssd().ok_or(Fault::Field("RANDSSD: 14 hex digits"))
+    words
+        .next_rand_ssd()
+        .ok_or(Fault::Field("RANDSSD: 14 hex digits"))
 }
 
 fn rand(words: &mut Words) -> Result<u32, Fault> {
@@ -61,7 +65,9 @@ fn rand(words: &mut Words) -> Result<u32, Fault> {
 }
 
 fn auth_data(words: &mut Words) -> Result<AuthData, Fault> {
-    words.next_auth_data().ok_or(Fault::Field("AUTH_DATA: 6 hex digits"))
+    words
+        .next_auth_data()
+        .ok_or(Fault::Field("AUTH_DATA: 6 hex digits"))
 }
 
 fn lfsr(words: &mut Words) -> Result<u32, Fault> {
@@ -94,25 +100,27 @@ fn opening(words: &mut Words) -> Result<OpeningRecord, Fault> {
 }
 
 fn fields_of(name: &[u8], words: &mut Words) -> Result<Calculation, Fault> {
-    Ok(match name {
-        b"lfsr" => Calculation::Lfsr(lfsr(words)?),
-        b"akey" => Calculation::Digits(digits(words)?),
-        b"akey_check" => Calculation::Check(AKey {
-            esn: esn(words)?,
-            key: secret(words)?,
-        }),
-        b"ssd" => Calculation::NewSsd(Renewal {
-            esn: esn(words)?,
-            key: secret(words)?,
-            rand_ssd: rand_ssd(words)?,
-        }),
-        b"sign" => Calculation::Sign(challenge(words)?),
-        b"signleft" => Calculation::SignLeft(challenge(words)?),
-        b"cmeakey" => Calculation::CmeaKey(opening(words)?),
-        b"vpm" => Calculation::VoiceMask(opening(words)?),
-        b"selftest" => Calculation::SelfTest,
-        _ => return Err(Fault::UnknownName),
-    })
+    Ok(
+        match name {
+            b"lfsr" => Calculation::Lfsr(lfsr(words)?),
+            b"akey" => Calculation::Digits(digits(words)?),
+            b"akey_check" => Calculation::Check(AKey {
+                esn: esn(words)?,
+                key: secret(words)?,
+            }),
+            b"ssd" => Calculation::NewSsd(Renewal {
+                esn: esn(words)?,
+                key: secret(words)?,
+                rand_ssd: rand_ssd(words)?,
+            }),
+            b"sign" => Calculation::Sign(challenge(words)?),
+            b"signleft" => Calculation::SignLeft(challenge(words)?),
+            b"cmeakey" => Calculation::CmeaKey(opening(words)?),
+            b"vpm" => Calculation::VoiceMask(opening(words)?),
+            b"selftest" => Calculation::SelfTest,
+            _ => return Err(Fault::UnknownName),
+        },
+    )
 }
 
 // The calculation that a line asks for.

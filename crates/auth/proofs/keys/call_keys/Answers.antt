@@ -1,9 +1,7 @@
-use Rattle.auth.specs.Keys.{call-keys-of}
 use Rattle.auth.proofs.Derived.{keys-by, masks-by}
 use Rattle.auth.proofs.keys.call_keys.Needs as need
 
 pub returns : need.returns
-unfolding call-keys-of
 returns c =
     record {
       result = simp (c .key-and-state .ensures .key, c .mask-bytes-voice-mask .ensures);

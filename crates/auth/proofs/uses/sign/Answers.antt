@@ -1,8 +1,6 @@
 use Rattle.auth.specs.Loading.{signature-loading}
-use Rattle.auth.specs.Reading.{signed-of}
 use Rattle.auth.proofs.Eighteen.{reads-18}
 use Rattle.auth.proofs.uses.sign.Needs as need
 
 pub returns : need.returns
-unfolding signed-of
 returns c = record { result = c .run .ensures .result; lawful = c .run .ensures .lawful; bits = rw (c .run .ensures .result) (reads-18 (signature-loading (c .args .of))) }

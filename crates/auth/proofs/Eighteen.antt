@@ -10,7 +10,6 @@ use Rattle.cave.proofs.Lawful.{registers-below}
 use Rattle.auth.specs.Reading.{crossed, eighteen, Reads-18}
 
 pub reads-18 : (start : CaveState) → Reads-18 (after-rounds 8 start) (eighteen (after-rounds 8 start))
-unfolding eighteen
 reads-18 start =
     let m : CaveState = after-rounds 8 start in
     let small : (i j : ℕ) → crossed m i j < 2 ^ 8 = λ i j. xor-lt 8 _ _ (registers-below 8 start (omega arith) i) (registers-below 8 start (omega arith) j) in

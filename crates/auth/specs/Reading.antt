@@ -13,7 +13,7 @@ abbrev pub crossed : CaveState → ℕ → ℕ → ℕ
 crossed m i j = bitXor (getD (m .registers) i 0) (getD (m .registers) j 0)
 
 -- the 18 bits of a check or a signature
-unfoldable pub eighteen : CaveState → ℕ
+abbrev pub eighteen : CaveState → ℕ
 eighteen m = (crossed m 0 13 * 2 ^ 16 + crossed m 1 14 * 2 ^ 8 + crossed m 2 15) % 2 ^ 18
 
 -- in the standard's words: the two top bits are the lowest two of R0 XOR R13, the next eight are R1 XOR R14, the last eight R2 XOR R15

@@ -12,7 +12,7 @@ use lib.ListN.{getD, set}
 use Rattle.std.proofs.shelf.Tests.{eq-eqb, ne-eqb, cond-true, cond-false, cases-eq}
 use Rattle.cave.specs.Lfsr.{cycled, d-raised}
 use Rattle.cave.specs.Table.{table}
-use Rattle.cave.specs.Mix.{Side, Tried, tried, half-at, moved, turns, low-side, high-side, mixed-at}
+use Rattle.cave.specs.Mix.{Side, Tried, tried, half-at, moved, turns, low-side, high-side, right-of, mixed-at}
 use Rattle.cave.specs.Tries.{cycles, offset-after, Equal, First-differing, Forced, Search}
 use Rattle.cave.specs.declared.state.CaveState.{CaveState}
 
@@ -58,7 +58,7 @@ module _ (s : Side) (n r w o w₀ o₀ e : ℕ) (more : 0 < n) (so-far : tried s
       cc
 
 -- One register, from what the two searches leave.
-pub mixed-at-is : (saved i next : ℕ) (m : CaveState) (low high : Tried) → tried low-side 32 (getD (m .registers) i 0) 0 (m .lfsr) (m .offset1) ≡ low → tried high-side 32 (getD (m .registers) i 0) 0 (low .lfsr) (m .offset2) ≡ high → next ≡ cond (eqb i 15) saved (getD (m .registers) (i + 1) 0) → (v : ℕ) → v ≡ cycled (high .lfsr) → mixed-at saved i m ≡ record { registers = set (m .registers) i (bitXor next (bitOr (low .half) (high .half))); lfsr = v; offset1 = low .offset; offset2 = high .offset }
+pub mixed-at-is : (saved i next : ℕ) (m : CaveState) (low high : Tried) → tried low-side 32 (getD (m .registers) i 0) 0 (m .lfsr) (m .offset1) ≡ low → tried high-side 32 (getD (m .registers) i 0) 0 (low .lfsr) (m .offset2) ≡ high → next ≡ right-of saved i (m .registers) → (v : ℕ) → v ≡ cycled (high .lfsr) → mixed-at saved i m ≡ record { registers = set (m .registers) i (bitXor next (bitOr (low .half) (high .half))); lfsr = v; offset1 = low .offset; offset2 = high .offset }
 unfolding mixed-at
 mixed-at-is saved i next m low high p q n v e = simp (p, q, n, e)
 

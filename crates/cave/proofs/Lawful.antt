@@ -12,7 +12,7 @@ use lib.ListN.{length, getD}
 use Rattle.std.proofs.shelf.Lists.{length-set, getD-set-same, getD-set-other}
 use Rattle.std.proofs.shelf.Tests.{eq-eqb, ne-eqb, cond-true, cond-false, cases-eq}
 use Rattle.cave.specs.Law.{Treats, Mixing, Round, Run}
-use Rattle.cave.specs.Mix.{Tried, tried, low-side, high-side, turns, mixed-at, mixed}
+use Rattle.cave.specs.Mix.{Tried, tried, low-side, high-side, turns, right-of, mixed-at, mixed}
 use Rattle.cave.specs.Rounds.{round, after-rounds, rotated}
 use Rattle.cave.specs.declared.state.CaveState.{CaveState}
 use Rattle.cave.proofs.Halves.{search-law, turns-more}
@@ -48,7 +48,7 @@ module _ (start : CaveState) (sixteen : length (start .registers) ≡ 16) where
       let d : j ≡ i → ⊥ = λ e. omega arith in
       getD-set-other (at i .registers) i j _ 0 d ∙ untouched i j (omega arith)
 
-  neighbour : (i : ℕ) → i < 16 → cond (eqb i 15) saved (getD (at i .registers) (i + 1) 0) ≡ getD (start .registers) ((i + 1) % 16) 0
+  neighbour : (i : ℕ) → i < 16 → right-of saved i (at i .registers) ≡ getD (start .registers) ((i + 1) % 16) 0
   neighbour i h =
       ⊎-elim
       (λ (e : i ≡ 15). cond-true _ _ _ (eq-eqb _ _ e) ∙ rw e refl)

@@ -1,6 +1,7 @@
 -- The mixing of the sixteen registers, which begins each round.
 use Prim.Native.Nat.{ℕ, zero, suc, _+_, _%_, _^_}
 use mathlib.Core.Bool.{cond}
+use mathlib.Core.List.{List}
 use lib.ListN.{getD, set}
 use lib.Dec.{eqb}
 use lib.Bits.{bitAnd, bitOr, bitXor}
@@ -47,15 +48,18 @@ unfoldable pub turns : {S : Type 0} → (ℕ → S → S) → ℕ → S → S
 turns f zero s = s
 turns f (suc n) s = f n (turns f n s)
 
--- register i mixed, where `saved` is R0 as the round began
+-- the register to the right of register i, where `saved` is R0 as the round began
+abbrev pub right-of : ℕ → ℕ → List ℕ → ℕ
+right-of saved i xs = cond (eqb i 15) saved (getD xs (i + 1) 0)
+
+-- register i mixed
 unfoldable pub mixed-at : ℕ → ℕ → CaveState → CaveState
 mixed-at saved i m =
     let r = getD (m .registers) i 0 in
     let low = tried low-side 32 r 0 (m .lfsr) (m .offset1) in
     let high = tried high-side 32 r 0 (low .lfsr) (m .offset2) in
-    let next = cond (eqb i 15) saved (getD (m .registers) (i + 1) 0) in
     record {
-      registers = set (m .registers) i (bitXor next (bitOr (low .half) (high .half)));
+      registers = set (m .registers) i (bitXor (right-of saved i (m .registers)) (bitOr (low .half) (high .half)));
       lfsr = cycled (high .lfsr);
       offset1 = low .offset;
       offset2 = high .offset;

@@ -4,7 +4,7 @@
 ghost use mathlib.Core.Path.{_≡_};
 ghost use Prim.Native.Nat.{_<_, _≤_};
 ghost use Rattle.cave.specs.Law.{Run};
-ghost use Rattle.cave.specs.Mix.{mixed};
+ghost use Rattle.cave.specs.Mix.{right-of, mixed};
 ghost use Rattle.cave.specs.Rounds.{rotated, shuffled, round, after-rounds, how-many};
 ghost use Rattle.cave.specs.Table.{Rows-permute};
 
@@ -18,6 +18,14 @@ use lfsr::raise_d;
 use state::CaveState;
 use state::Rounds;
 use table::entry;
+
+// The register to the right of register i; R15 has R0 as the round began.
+fn neighbour(registers: [u8; 16], i: usize, saved: u8) -> u8
+    requires { ⌜ i < 16 ⌝ }
+    ensures { λ r. ⌜ r ≡ right-of saved i registers ⌝ }
+{
+    if i == 15 { saved } else { registers[i + 1] }
+}
 
 // R0 to R15 mixed in turn. Each half byte takes at most 32 tries: an equal one makes an LFSR cycle and another try, and
 // after the 32nd 1 is added to D and that half is used.
@@ -56,8 +64,7 @@ fn mix(start: CaveState) -> CaveState
                 break half;
             }
         };
-        let next = if i == 15 { saved } else { m.registers[i + 1] };
-        m.registers[i] = next ^ (low | high);
+        m.registers[i] = neighbour(m.registers, i, saved) ^ (low | high);
         m.lfsr = lfsr_cycle(m.lfsr);
     }
     m

@@ -1,17 +1,13 @@
 use mathlib.Core.Path.{_≡_, refl, ap, sym, _∙_}
-use mathlib.Core.Bool.{cond}
-use mathlib.Core.List.{List}
-use Prim.Native.Nat.{ℕ, _<_, _+_, _-_}
+use Prim.Native.Nat.{ℕ, _<_, _-_}
 use native.Mathlib.Omega.{arith}
-use lib.Dec.{eqb}
 use lib.Bits.{bitOr, bitXor}
 use lib.ListN.{getD, set}
-use Rattle.std.proofs.shelf.Tests.{eq-eqb, ne-eqb, cond-true, cond-false}
-use Rattle.cave.specs.Mix.{tried, low-side, high-side, turns, mixed-at, mixed}
+use Rattle.cave.specs.Mix.{tried, low-side, high-side, turns, right-of, mixed-at, mixed}
 use Rattle.cave.specs.declared.state.CaveState.{CaveState}
 use Rattle.cave.proofs.Halves.{found, again, forced, turns-more, mixed-at-is}
 use Rattle.cave.proofs.mix.Needs as need
-use Rattle.cave.proofs.mix.Needs.{then-half-r, else-half-r·then-left-eq0, then-half-r-2, else-half-r-2·then-left-eq0-2, then-i-eq15, else-i-eq15}
+use Rattle.cave.proofs.mix.Needs.{then-half-r, else-half-r·then-left-eq0, then-half-r-2, else-half-r-2·then-left-eq0-2}
 
 pub loop-i-holds : need.loop-i-holds
 unfolding turns
@@ -71,22 +67,15 @@ high-is c =
       )
     ]
 
-next-is : (c : need.After-lfsr-cycle-in-loop-i) → c .if-i-eq15 .next ≡ cond (eqb (c .loop-i .i) 15) (getD (c .args .start .registers) 0 0) (getD (c .if-half-r-2 .m .registers) (c .loop-i .i + 1) 0)
-next-is c =
-    elim (c .if-i-eq15 .came) [
-      | then-i-eq15 w ↦ w .next-is ∙ sym (cond-true _ _ _ (eq-eqb _ _ (w .if-i-eq15 .taken)))
-      | else-i-eq15 w ↦ w .next-is ∙ sym (cond-false _ _ _ (ne-eqb _ _ (w .if-i-eq15 .left)))
-    ]
-
 pub loop-i-again : need.loop-i-again
 loop-i-again c =
     let low = low-is c in
     let high = high-is c in
     let kept : c .if-half-r-2 .m .registers ≡ c .loop-i .m .registers = high .1 ∙ low .1 in
     let went : tried high-side 32 (r c) 0 (c .if-half-r .m .lfsr) (c .loop-i .m .offset2) ≡ record { lfsr = c .if-half-r-2 .m .lfsr; offset = c .if-half-r-2 .m .offset2; half = c .if-half-r-2 .high } = ap (tried high-side 32 (r c) 0 (c .if-half-r .m .lfsr)) (sym (low .2)) ∙ high .0 in
-    let next = next-is c ∙ ap (λ (rs : List ℕ). cond (eqb (c .loop-i .i) 15) (getD (c .args .start .registers) 0 0) (getD rs (c .loop-i .i + 1) 0)) kept in
+    let next = c .neighbour .ensures ∙ ap (right-of (getD (c .args .start .registers) 0 0) (c .loop-i .i)) kept in
     let here = mixed-at-is (getD (c .args .start .registers) 0 0) (c .loop-i .i) _ (c .loop-i .m) _ _ (low .0) went next _ (c .lfsr-cycle-in-loop-i .ensures) in
-    (λ k. record { registers = set (kept k) (c .loop-i .i) (bitXor (c .if-i-eq15 .next) (bitOr (c .if-half-r .low) (c .if-half-r-2 .high))); lfsr = c .lfsr-cycle-in-loop-i .result; offset1 = high .2 k; offset2 = c .if-half-r-2 .m .offset2 })
+    (λ k. record { registers = set (kept k) (c .loop-i .i) (bitXor (c .neighbour .result) (bitOr (c .if-half-r .low) (c .if-half-r-2 .high))); lfsr = c .lfsr-cycle-in-loop-i .result; offset1 = high .2 k; offset2 = c .if-half-r-2 .m .offset2 })
     ∙ sym here
     ∙ ap (mixed-at (getD (c .args .start .registers) 0 0) (c .loop-i .i)) (c .loop-i .inv)
     ∙ sym (turns-more _ _ _)

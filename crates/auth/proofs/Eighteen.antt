@@ -1,9 +1,7 @@
 -- The 18 bits that are read off are the stated ones.
-use mathlib.Core.Path.{_≡_}
-use Prim.Native.Nat.{ℕ, _*_, _/_, _%_, _+_, _^_, _<_}
+use Prim.Native.Nat.{ℕ, _^_, _<_}
 use native.Mathlib.Omega.{arith}
 use lib.Bits.{xor-lt}
-use lib.ListN.{getD}
 use Rattle.cave.specs.Rounds.{after-rounds}
 use Rattle.cave.specs.declared.state.CaveState.{CaveState}
 use Rattle.cave.proofs.Lawful.{registers-below}

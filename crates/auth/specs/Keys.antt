@@ -39,12 +39,15 @@ key-byte at k = crossed (at (k / 4 + 1)) (k % 4 + 4) (k % 4 + 8)
 abbrev pub mask-byte : (ℕ → CaveState) → ℕ → ℕ
 mask-byte at k = crossed (at (k / 6 + 3)) (k % 6 + 2) (k % 6 + 8)
 
+-- the CMEA key of a call
 unfoldable pub cmea-key-of : OpeningRecord → List ℕ
 cmea-key-of o = map (key-byte (iteration o)) (counting 0 8)
 
+-- the voice privacy mask of a call
 unfoldable pub voice-mask-of : OpeningRecord → List ℕ
 voice-mask-of o = map (mask-byte (iteration o)) (counting 0 65)
 
+-- both
 abbrev pub call-keys-of : OpeningRecord → CallKeys
 call-keys-of o = record { «cmea_key» = cmea-key-of o; «voice_mask» = voice-mask-of o }
 
@@ -53,12 +56,13 @@ pub record Iterations (o : OpeningRecord) (at : ℕ → CaveState) : Type 0 wher
   pub first : Run 8 (opening-loading o) (at 0)
   pub further : (n : ℕ) → Run 4 (rolled (o .rand) (at n)) (at (n + 1))
 
--- a key, and a mask, of the call: its bytes are read off the states of the call's iterations
+-- the bytes of a key are read off the states of the call's iterations
 pub record Keys-by (o : OpeningRecord) (key : List ℕ) : Type 0 where
   pub at : ℕ → CaveState
   pub runs : Iterations o at
   pub bytes : (k : ℕ) → k < 8 → getD key k 0 ≡ key-byte at k
 
+-- the bytes of a mask are
 pub record Masks-by (o : OpeningRecord) (mask : List ℕ) : Type 0 where
   pub at : ℕ → CaveState
   pub runs : Iterations o at

@@ -1,5 +1,5 @@
 -- The rule of the first eight rows, from one test that antt computes, and what it says of a shuffle.
-use mathlib.Core.Path.{_≡_, refl, sym, ap, _∙_}
+use mathlib.Core.Path.{_≡_, refl, sym, _∙_}
 use mathlib.Core.Bool.{Bool, true, _&&_, _||_, not, cond}
 use mathlib.Core.Logic.{⊎-elim}
 use mathlib.Core.List.{List}
@@ -8,10 +8,10 @@ use native.Mathlib.Nat.{not-suc-le-zero}
 use native.Mathlib.Omega.{arith}
 use lib.Bits.{and-le-r}
 use lib.Dec.{eqb, ltb}
-use lib.ListN.{length, getD, set, replicate}
+use lib.ListN.{length, getD, replicate}
 use Rattle.std.proofs.shelf.Tests.{and-parts, eqb-true, ltb-true, or-cases, not-true, cases-eq, eq-eqb, both-ways}
 use Rattle.std.proofs.shelf.Lists.{length-set, getD-set-same, getD-set-other}
-use Rattle.cave.specs.Table.{table, place, Once, Rows-permute}
+use Rattle.cave.specs.Table.{table, place, Rows-permute}
 use Rattle.cave.specs.Mix.{turns}
 use Rattle.cave.specs.Rounds.{put, shuffled}
 use Rattle.cave.proofs.Computed.{below, below-at}

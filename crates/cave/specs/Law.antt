@@ -10,7 +10,7 @@ use Rattle.cave.specs.Rounds.{rotated}
 use Rattle.cave.specs.Tries.{Search}
 use Rattle.cave.specs.declared.state.CaveState.{CaveState}
 
--- register i treated, in a round that began at `start`: it becomes its right neighbour of then (R0's of R15)
+-- register i treated, in a round that began at `start`: it becomes the register that stood to its right then (for R15, R0)
 -- XOR both halves joined, one LFSR cycle follows, and no other register changes
 pub record Treats (start : CaveState) (i : ℕ) (m n : CaveState) : Type 0 where
   pub low : Tried

@@ -17,9 +17,10 @@ cycled w = feedback w * 2 ^ 31 + w / 2
 abbrev pub d-raised : ℕ → ℕ
 d-raised w = w - w % 256 + (w % 256 + 1) % 256
 
--- the bytes A and B
+-- the byte A, the top one
 abbrev pub byte-a : ℕ → ℕ
 byte-a w = w / 2 ^ 24 % 2 ^ 8
 
+-- the byte B, the next one
 abbrev pub byte-b : ℕ → ℕ
 byte-b w = w / 2 ^ 16 % 2 ^ 8

@@ -14,9 +14,11 @@ pub record Side : Type 0 where
   pub stage : ℕ → ℕ
   pub mask : ℕ
 
+-- A moves offset 1, and the low half is taken
 abbrev pub low-side : Side
 low-side = record { stage = byte-a; mask = 15 }
 
+-- B moves offset 2, and the high half is taken
 abbrev pub high-side : Side
 high-side = record { stage = byte-b; mask = 240 }
 

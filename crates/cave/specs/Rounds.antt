@@ -9,10 +9,11 @@ use Rattle.cave.specs.declared.state.CaveState.{CaveState}
 use Rattle.cave.specs.declared.state.Rounds.{Rounds}
 use Rattle.cave.specs.declared.state.Rounds.the-variants.{Four, Eight}
 
--- 128 bits rotated right by one
+-- the number of 128 bits n, rotated right by one
 unfoldable pub turned : ℕ → ℕ
 turned n = n / 2 + n % 2 * 2 ^ 127
 
+-- the sixteen registers xs as 128 bits, rotated right by one
 unfoldable pub rotated : List ℕ → List ℕ
 rotated xs = bytes 16 (turned (wide 16 xs))
 
@@ -20,6 +21,7 @@ rotated xs = bytes 16 (turned (wide 16 xs))
 abbrev pub put : ℕ → List ℕ → ℕ → List ℕ → List ℕ
 put k xs i ys = set ys (place k i) (getD xs i 0)
 
+-- every register of xs put so, into sixteen zeros
 unfoldable pub shuffled : ℕ → List ℕ → List ℕ
 shuffled k xs = turns (put k xs) 16 (replicate 16 0)
 
@@ -34,6 +36,7 @@ unfoldable pub after-rounds : ℕ → CaveState → CaveState
 after-rounds zero m = m
 after-rounds (suc n) m = after-rounds n (round n m)
 
+-- the number of rounds of a run
 abbrev pub how-many : Rounds → ℕ
 how-many Four = 4
 how-many Eight = 8

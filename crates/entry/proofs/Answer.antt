@@ -1,6 +1,6 @@
 -- The answer to an entry: how it comes about, and that it says what the law of answers says.
 use mathlib.Core.Path.{_≡_, refl, ap, sym, subst, _∙_}
-use mathlib.Core.Bool.{Bool, true, false, cond, _||_}
+use mathlib.Core.Bool.{cond, _||_}
 use mathlib.Core.List.{List}
 use mathlib.Core.Logic.{_⊎_, inl, inr, ⊎-elim}
 use Prim.Native.Nat.{ℕ, _-_, _%_, _^_, _≤_}
@@ -14,7 +14,7 @@ use Rattle.std.specs.declared.result.Result.{Result}
 use Rattle.std.specs.declared.result.Result.the-variants.{Ok, Err}
 use Rattle.auth.specs.Uses.{akey-check-of}
 use Rattle.refusal.specs.declared.Refusal.{Refusal}
-use Rattle.refusal.specs.declared.Refusal.the-variants.{NotADigit, WrongCount, CheckDiffers}
+use Rattle.refusal.specs.declared.Refusal.the-variants.{NotADigit, CheckDiffers}
 use Rattle.entry.specs.Digits.{first-bad, decimal}
 use Rattle.entry.specs.Entry.{unless-bad, digits-read, key-of, check-of, right-check, entry-read, Digits-below, Says}
 use Rattle.entry.proofs.Scan.{found-bad, found-none}

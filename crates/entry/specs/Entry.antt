@@ -1,6 +1,6 @@
 -- What is read of a key entry: the digits of an A-key, and behind them six check digits.
 use Prim.Native.Nat.{ℕ, _-_, _%_, _^_, _<_, _≤_}
-use mathlib.Core.Bool.{Bool, true, false, cond, _||_}
+use mathlib.Core.Bool.{true, false, cond, _||_}
 use mathlib.Core.List.{List}
 use mathlib.Core.Logic.{_⊎_}
 use mathlib.Core.Path.{_≡_}
@@ -11,7 +11,6 @@ use Rattle.std.specs.declared.option.Option.the-variants.{Some, None}
 use Rattle.std.specs.declared.result.Result.{Result}
 use Rattle.std.specs.declared.result.Result.the-variants.{Ok, Err}
 use Rattle.auth.specs.Uses.{akey-check-of}
-use Rattle.auth.specs.declared.types.AKey.{AKey}
 use Rattle.refusal.specs.declared.Refusal.{Refusal}
 use Rattle.refusal.specs.declared.Refusal.the-variants.{NotADigit, WrongCount, CheckDiffers}
 use Rattle.entry.specs.Digits.{is-digit, first-bad, decimal}
@@ -25,10 +24,11 @@ unless-bad None r = r
 abbrev pub digits-read : List ℕ → ℕ → Result ℕ Refusal
 digits-read bs n = unless-bad (first-bad bs 0) (Ok (decimal (take n bs) % 2 ^ 64))
 
--- the key digits of an entry are all but the last six, which are the check
+-- the key that was typed: all digits but the last six
 abbrev pub key-of : List ℕ → ℕ
 key-of bs = decimal (take (length bs - 6) bs) % 2 ^ 64
 
+-- the check that was typed: the last six digits
 abbrev pub check-of : List ℕ → ℕ
 check-of bs = decimal (drop (length bs - 6) bs)
 

@@ -15,6 +15,7 @@ use Rattle.refusal.specs.declared.Refusal.{Refusal}
 abbrev pub Gives : List ℕ → ℕ → Type 0
 Gives digits key = digits-read digits 20 ≡ Ok key
 
+-- the list
 pub record Worked-examples : Type 0 where
   -- the number of the key digits, and its remainder from 2^64 on
   pub key-counting : Gives (codes "12345678901234567890") 0xAB54A98CEB1F0AD2

@@ -13,8 +13,10 @@ use Rattle.hex.specs.Hex.{is-field, field-bytes}
 abbrev pub number-read : List ℕ → ℕ → Option ℕ
 number-read bs n = cond (is-field bs n) (Some (wide n (field-bytes bs n))) None
 
+-- AUTH_DATA, three bytes
 abbrev pub auth-data-read : List ℕ → Option AuthData
 auth-data-read bs = cond (is-field bs 3) (Some (record { 0 = field-bytes bs 3 })) None
 
+-- RANDSSD, seven bytes
 abbrev pub rand-ssd-read : List ℕ → Option RandSsd
 rand-ssd-read bs = cond (is-field bs 7) (Some (record { 0 = field-bytes bs 7 })) None

@@ -18,12 +18,14 @@ unfoldable pub leading : Bool → List ℕ → ℕ
 leading blank [] = 0
 leading blank (b ∷ bs) = cond (alike blank b) (leading blank bs + 1) 0
 
--- the first word of a line, which is empty only where the line has none, and what stands behind it
+-- a line without the blanks in front
 abbrev pub unblanked : List ℕ → List ℕ
 unblanked bs = drop (leading true bs) bs
 
+-- the first word of a line, which is empty only where the line has none
 abbrev pub first-word : List ℕ → List ℕ
 first-word bs = take (leading false (unblanked bs)) (unblanked bs)
 
+-- what stands behind it
 abbrev pub behind-word : List ℕ → List ℕ
 behind-word bs = drop (leading false (unblanked bs)) (unblanked bs)

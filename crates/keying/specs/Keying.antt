@@ -1,6 +1,5 @@
 -- The keying of a terminal from beginning to end.
 use Prim.Native.Nat.{ℕ}
-use mathlib.Core.List.{List}
 use Rattle.std.specs.declared.result.Result.{Result}
 use Rattle.std.specs.declared.result.Result.the-variants.{Ok, Err}
 use Rattle.auth.specs.Keys.{call-keys-of}
@@ -8,7 +7,6 @@ use Rattle.auth.specs.Uses.{new-ssd-of, signature-of}
 use Rattle.auth.specs.declared.types.OpeningRecord.{OpeningRecord}
 use Rattle.auth.specs.declared.types.Signed.{Signed}
 use Rattle.auth.specs.declared.types.Ssd.{Ssd}
-use Rattle.entry.specs.Entry.{entry-read}
 use Rattle.refusal.specs.declared.Refusal.{Refusal}
 use Rattle.keying.specs.declared.terminal.Numbers.{Numbers}
 use Rattle.keying.specs.declared.terminal.Keyed.{Keyed}

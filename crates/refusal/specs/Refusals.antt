@@ -6,11 +6,13 @@ use Rattle.refusal.specs.declared.Refusal.the-variants.{NotADigit, WrongCount,
 use Rattle.refusal.specs.declared.Told.{Told}
 use Rattle.refusal.specs.declared.Told.the-variants.{Nothing, One}
 
+-- the number of a refusal
 abbrev pub number-of : Refusal → ℕ
 number-of (NotADigit index) = 1
 number-of (WrongCount count) = 2
 number-of CheckDiffers = 3
 
+-- the values told with it
 abbrev pub told-of : Refusal → List ℕ
 told-of (NotADigit index) = index ∷ []
 told-of (WrongCount count) = count ∷ []

@@ -8,6 +8,7 @@ use Rattle.tr45.specs.declared.calculation.Calculation.the-variants as asked
 use Rattle.tr45.specs.declared.calculation.Answer.{Answer}
 use Rattle.tr45.specs.declared.calculation.Answer.the-variants as told
 
+-- the answer to a calculation
 abbrev pub answer-of : Calculation → Answer
 answer-of (asked.Lfsr lfsr) = told.Word (cycled lfsr)
 answer-of (asked.Digits key) = told.Key key

@@ -1,12 +1,12 @@
 use borrow.Author.Needs.{needs}
 use mathlib.Core.Path.{_≡_, ap, sym, subst, _∙_}
-use Prim.Native.Nat.{ℕ, _-_, _≤_}
+use Prim.Native.Nat.{_-_, _≤_}
 use native.Mathlib.Omega.{arith}
 use lib.ListN.{length}
 use Rattle.std.proofs.shelf.Lists.{length-take-le}
 use Rattle.std.proofs.shelf.Results.{err-from-errBy}
-use Rattle.std.specs.declared.result.Result.the-variants.{Ok, Err}
-use Rattle.entry.specs.Entry.{digits-read, entry-read, check-of, Says}
+use Rattle.std.specs.declared.result.Result.the-variants.{Err}
+use Rattle.entry.specs.Entry.{entry-read, Says}
 use Rattle.entry.specs.Digits.{decimal}
 use Rattle.entry.proofs.Scan.{last-six}
 use Rattle.entry.proofs.Answer.{entry-says, bad-digit, check-differs, accepted}

@@ -1,10 +1,9 @@
 // A calculator for TR45.0.A. Each line of standard input asks for one calculation, a name and its fields, and is printed with
 // ` -> ` and the answer, or ` -> error: ` and why there is none. A line that is empty or begins with `#` is passed over.
-mod calculation;
 mod request;
 
-use calculation::AnswerDisplay;
-use calculation::perform;
+use calculations::AnswerDisplay;
+use calculations::perform;
 use request::FaultDisplay;
 use request::read_line;
 use std::io;

@@ -1,11 +1,11 @@
 // Reading a line: the name of a calculation, and its fields.
-use crate::calculation::Calculation;
 use auth::types::AKey;
 use auth::types::AuthData;
 use auth::types::Challenge;
 use auth::types::OpeningRecord;
 use auth::types::RandSsd;
 use auth::types::Renewal;
+use calculations::Calculation;
 use entry::read_key;
 use fields::words::Words;
 use std::fmt;
@@ -78,6 +78,22 @@ fn offset(words: &mut Words) -> Result<u8, Fault> {
     words.next_u8().ok_or(Fault::Field("OFFSET: 2 hex digits"))
 }
 
+fn akey(words: &mut Words) -> Result<AKey, Fault> {
+    Ok(AKey {
+        esn: esn(words)?,
+        key: secret(words)?,
+    })
+}
+
+fn renewal(words: &mut Words) -> Result<Renewal, Fault> {
+    let of = akey(words)?;
+    Ok(Renewal {
+        esn: of.esn,
+        key: of.key,
+        rand_ssd: rand_ssd(words)?,
+    })
+}
+
 fn challenge(words: &mut Words) -> Result<Challenge, Fault> {
     Ok(Challenge {
         esn: esn(words)?,
@@ -87,38 +103,66 @@ fn challenge(words: &mut Words) -> Result<Challenge, Fault> {
     })
 }
 
+// The fields of a challenge over SSD_B, and then what the opening signature left.
 fn opening(words: &mut Words) -> Result<OpeningRecord, Fault> {
+    let over = challenge(words)?;
     Ok(OpeningRecord {
-        esn: esn(words)?,
-        ssd_b: secret(words)?,
-        rand: rand(words)?,
-        auth_data: auth_data(words)?,
+        ssd_b: over.secret,
+        esn: over.esn,
+        rand: over.rand,
+        auth_data: over.auth_data,
         lfsr: lfsr(words)?,
         offset1: offset(words)?,
         offset2: offset(words)?,
     })
 }
 
-fn fields_of(name: &[u8], words: &mut Words) -> Result<Calculation, Fault> {
+// The name of a calculation.
+#[derive(Clone, Copy)]
+enum Name {
+    Lfsr,
+    AKey,
+    AKeyCheck,
+    Ssd,
+    Sign,
+    SignLeft,
+    CmeaKey,
+    Vpm,
+    SelfTest,
+}
+
+fn name_of(word: &[u8]) -> Result<Name, Fault> {
+    let names = [
+        (&b"lfsr"[..], Name::Lfsr),
+        (&b"akey"[..], Name::AKey),
+        (&b"akey_check"[..], Name::AKeyCheck),
+        (&b"ssd"[..], Name::Ssd),
+        (&b"sign"[..], Name::Sign),
+        (&b"signleft"[..], Name::SignLeft),
+        (&b"cmeakey"[..], Name::CmeaKey),
+        (&b"vpm"[..], Name::Vpm),
+        (&b"selftest"[..], Name::SelfTest),
+    ];
+    for (text, name) in names {
+        if word == text {
+            return Ok(name);
+        }
+    }
+    Err(Fault::UnknownName)
+}
+
+fn fields_of(name: Name, words: &mut Words) -> Result<Calculation, Fault> {
     Ok(
         match name {
-            b"lfsr" => Calculation::Lfsr(lfsr(words)?),
-            b"akey" => Calculation::Digits(digits(words)?),
-            b"akey_check" => Calculation::Check(AKey {
-                esn: esn(words)?,
-                key: secret(words)?,
-            }),
-            b"ssd" => Calculation::NewSsd(Renewal {
-                esn: esn(words)?,
-                key: secret(words)?,
-                rand_ssd: rand_ssd(words)?,
-            }),
-            b"sign" => Calculation::Sign(challenge(words)?),
-            b"signleft" => Calculation::SignLeft(challenge(words)?),
-            b"cmeakey" => Calculation::CmeaKey(opening(words)?),
-            b"vpm" => Calculation::VoiceMask(opening(words)?),
-            b"selftest" => Calculation::SelfTest,
-            _ => return Err(Fault::UnknownName),
+            Name::Lfsr => Calculation::Lfsr(lfsr(words)?),
+            Name::AKey => Calculation::Digits(digits(words)?),
+            Name::AKeyCheck => Calculation::Check(akey(words)?),
+            Name::Ssd => Calculation::NewSsd(renewal(words)?),
+            Name::Sign => Calculation::Sign(challenge(words)?),
+            Name::SignLeft => Calculation::SignLeft(challenge(words)?),
+            Name::CmeaKey => Calculation::CmeaKey(opening(words)?),
+            Name::Vpm => Calculation::VoiceMask(opening(words)?),
+            Name::SelfTest => Calculation::SelfTest,
         },
     )
 }
@@ -126,7 +170,7 @@ fn fields_of(name: &[u8], words: &mut Words) -> Result<Calculation, Fault> {
 // The calculation that a line asks for.
 pub(crate) fn read_line(line: &[u8]) -> Result<Calculation, Fault> {
     let mut words = Words::new(line);
-    let name = words.next_word();
+    let name = name_of(words.next_word())?;
     let calculation = fields_of(name, &mut words)?;
     if !words.next_word().is_empty() {
         return Err(Fault::MoreFields);

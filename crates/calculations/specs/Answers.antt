@@ -3,10 +3,10 @@ use mathlib.Core.Bool.{true}
 use Rattle.cave.specs.Lfsr.{cycled}
 use Rattle.auth.specs.Uses.{akey-check-of, new-ssd-of, signature-of}
 use Rattle.auth.specs.Keys.{cmea-key-of, call-keys-of}
-use Rattle.tr45.specs.declared.calculation.Calculation.{Calculation}
-use Rattle.tr45.specs.declared.calculation.Calculation.the-variants as asked
-use Rattle.tr45.specs.declared.calculation.Answer.{Answer}
-use Rattle.tr45.specs.declared.calculation.Answer.the-variants as told
+use Rattle.calculations.specs.declared.Calculation.{Calculation}
+use Rattle.calculations.specs.declared.Calculation.the-variants as asked
+use Rattle.calculations.specs.declared.Answer.{Answer}
+use Rattle.calculations.specs.declared.Answer.the-variants as told
 
 -- the answer to a calculation
 abbrev pub answer-of : Calculation → Answer

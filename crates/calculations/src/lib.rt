@@ -1,6 +1,6 @@
-// The calculations that a line can ask for, and their answers.
+// The calculations that the calculator `tr45` offers, as data, and their answers with their text. Public: `perform`.
 ghost use mathlib.Core.Path.{_≡_};
-ghost use Rattle.tr45.specs.Answers.{answer-of};
+ghost use Rattle.calculations.specs.Answers.{answer-of};
 use auth::keys::call_keys;
 use auth::keys::cmea_key;
 use auth::types::AKey;
@@ -43,7 +43,7 @@ pub enum Answer {
 }
 
 // The answer to a calculation.
-pub(crate) fn perform(calculation: Calculation) -> Answer
+pub fn perform(calculation: Calculation) -> Answer
     ensures { λ r. ⌜ r ≡ answer-of calculation ⌝ }
 {
     match calculation {

@@ -6,7 +6,7 @@ use lib.Bits.{bitXor}
 use lib.Dec.{eqb}
 use Rattle.cave.specs.Bytes.{wide, bytes, part}
 use Rattle.cave.specs.declared.state.CaveState.{CaveState}
-use Rattle.auth.specs.declared.types.AKey.{AKey}
+use Rattle.auth.specs.declared.types.TerminalKey.{TerminalKey}
 use Rattle.auth.specs.declared.types.Renewal.{Renewal}
 use Rattle.auth.specs.declared.types.Challenge.{Challenge}
 
@@ -24,7 +24,7 @@ abbrev pub blended : ℕ → ℕ → ℕ
 blended x secret = bitXor (bitXor x (secret / 2 ^ 32)) (secret % 2 ^ 32)
 
 -- A-key check: the LFSR is the key's upper half, or the ESN; the data are the key's lowest 24 bits
-abbrev pub akey-loading : AKey → CaveState
+abbrev pub akey-loading : TerminalKey → CaveState
 akey-loading q = loading (if-zero (q .key / 2 ^ 32) (q .esn)) (q .key) (bytes 3 (q .key)) (q .esn)
 
 -- the lower 32 bits of RANDSSD

@@ -3,14 +3,14 @@ use Prim.Native.Nat.{ℕ}
 use Rattle.cave.specs.Rounds.{after-rounds}
 use Rattle.auth.specs.Loading.{akey-loading, ssd-loading, signature-loading}
 use Rattle.auth.specs.Reading.{eighteen, ssd-of, signed-of}
-use Rattle.auth.specs.declared.types.AKey.{AKey}
+use Rattle.auth.specs.declared.types.TerminalKey.{TerminalKey}
 use Rattle.auth.specs.declared.types.Renewal.{Renewal}
 use Rattle.auth.specs.declared.types.Challenge.{Challenge}
 use Rattle.auth.specs.declared.types.Ssd.{Ssd}
 use Rattle.auth.specs.declared.types.Signed.{Signed}
 
 -- the 18-bit check of an A-key
-abbrev pub akey-check-of : AKey → ℕ
+abbrev pub akey-check-of : TerminalKey → ℕ
 akey-check-of q = eighteen (after-rounds 8 (akey-loading q))
 
 -- new shared secret data

@@ -15,9 +15,9 @@ pub struct Ssd {
     pub b: u64,
 }
 
-// What the check of an A-key is made of: the serial number (ESN) of the terminal, and the key.
+// The A-key of a terminal, with the serial number (ESN) of the terminal; the check is made of both.
 #[derive(Clone, Copy)]
-pub struct AKey {
+pub struct TerminalKey {
     pub esn: u32,
     pub key: u64,
 }

@@ -11,11 +11,11 @@ use crate::load::join_4;
 use crate::load::join_8;
 use crate::load::load_state;
 use crate::load::or_if_zero;
-use crate::types::AKey;
 use crate::types::Challenge;
 use crate::types::Renewal;
 use crate::types::Signed;
 use crate::types::Ssd;
+use crate::types::TerminalKey;
 use cave::state::CaveState;
 use cave::uses::CaveUse;
 use cave::uses::run;
@@ -41,7 +41,7 @@ fn read_18(last: CaveState) -> u32
 pub struct AKeyCheck;
 
 pub impl CaveUse for AKeyCheck as AKeyCheckUse {
-    type Input = AKey;
+    type Input = TerminalKey;
 
     type Output = u32;
 
@@ -49,7 +49,7 @@ pub impl CaveUse for AKeyCheck as AKeyCheckUse {
 
     ghost reading = { eighteen };
 
-    fn load(input: AKey) -> CaveState {
+    fn load(input: TerminalKey) -> CaveState {
         let k = input.key.to_be_bytes();
         let upper = (input.key >> 32) as u32;
         load_state(
@@ -119,7 +119,7 @@ pub impl CaveUse for AuthSignature as AuthSignatureUse {
 }
 
 // The check of an A-key: 18 bits.
-pub fn akey_check(of: AKey) -> u32
+pub fn akey_check(of: TerminalKey) -> u32
     ensures result { λ r. ⌜ r ≡ akey-check-of of ⌝ }
     ensures lawful { λ r. ⌜ Answers-by (akey-loading of) eighteen r ⌝ }
     ensures bits { λ r. ⌜ Reads-18 (after-rounds 8 (akey-loading of)) r ⌝ }

@@ -3,12 +3,12 @@ ghost use mathlib.Core.Path.{_≡_};
 ghost use Rattle.calculations.specs.Answers.{answer-of};
 use auth::keys::call_keys;
 use auth::keys::cmea_key;
-use auth::types::AKey;
 use auth::types::Challenge;
 use auth::types::OpeningRecord;
 use auth::types::Renewal;
 use auth::types::Signed;
 use auth::types::Ssd;
+use auth::types::TerminalKey;
 use auth::uses::akey_check;
 use auth::uses::new_ssd;
 use auth::uses::sign;
@@ -21,7 +21,7 @@ pub enum Calculation {
     Lfsr(u32),
     // key digits that were read
     Digits(u64),
-    Check(AKey),
+    Check(TerminalKey),
     NewSsd(Renewal),
     Sign(Challenge),
     SignLeft(Challenge),

@@ -1,23 +1,21 @@
 -- Digits read one at a time, and what the first bad one says of the others.
 use mathlib.Core.Path.{_≡_, refl, ap, sym, _∙_}
 use mathlib.Core.Bool.{true, false}
-use mathlib.Core.List.{List, [], _∷_, _++_}
-use mathlib.Core.Logic.{_⊎_, inl, inr, ⊎-elim}
+use mathlib.Core.List.{List, [], _∷_, map}
+use mathlib.Core.Logic.{⊎-elim}
 use Prim.Native.Nat.{ℕ, zero, suc, _+_, _-_, _*_, _/_, _%_, _^_, _<_, _≤_, min}
 use native.Mathlib.Nat.{not-suc-le-zero, le-of-suc-le-suc, min-eq-left, min-eq-right, mod-add-mod, add-mul-mod-self-left, div-add-mod}
 use native.Mathlib.Omega.{arith}
 use lib.ListN.{length, getD, take, drop}
-use Rattle.std.proofs.shelf.Lists.{take-more, take-all, drop-more, drop-all, at-drop-more, at-drop-all}
-use Rattle.std.proofs.shelf.Tests.{cond-true, cond-false, cases-bool, cases-lt, and-from, and-left, and-right, le-leb, lt-leb}
+use Rattle.std.proofs.shelf.Lists.{map-more, take-all, drop-more, drop-all, at-drop-more, at-drop-all}
+use Rattle.std.proofs.shelf.Tests.{cond-true, cond-false, cases-bool, cases-lt}
+use Rattle.std.proofs.shelf.Digits.{number-push}
+use Rattle.std.specs.Text.{asciiDigit}
+use Rattle.std.specs.shelf.Digits.{number}
 use Rattle.std.specs.declared.option.Option.{Option}
 use Rattle.std.specs.declared.option.Option.the-variants.{Some, None}
-use Rattle.entry.specs.Digits.{is-digit, first-bad, decimal-after, decimal}
+use Rattle.entry.specs.Digits.{first-bad, value-of, decimal}
 use Rattle.entry.specs.Entry.{Digits-below}
-
-decimal-push : (bs : List ℕ) (b n : ℕ) → decimal-after (bs ++ (b ∷ [])) n ≡ decimal-after bs n * 10 + (b - 0x30)
-unfolding decimal-after
-decimal-push [] b n = refl
-decimal-push (x ∷ bs) b n = decimal-push bs b (n * 10 + (x - 0x30))
 
 ten-mod : (n x : ℕ) → (((n % 2 ^ 64) * 10) % 2 ^ 64 + x) % 2 ^ 64 ≡ (n * 10 + x) % 2 ^ 64
 ten-mod n x =
@@ -26,13 +24,13 @@ ten-mod n x =
     mod-add-mod (n % 2 ^ 64 * 10) (2 ^ 64) x ∙ sym (ap (λ (k : ℕ). k % 2 ^ 64) whole ∙ add-mul-mod-self-left (n % 2 ^ 64 * 10 + x) (2 ^ 64) (n / 2 ^ 64 * 10))
 
 -- one key digit more, one digit behind the key, and the end
-pub key-more : (bs : List ℕ) (key n i : ℕ) → i < length bs → i < n → key ≡ decimal (take (min i n) bs) % 2 ^ 64 → ((key * 10) % 2 ^ 64 + (getD bs i 0 - 0x30)) % 2 ^ 64 ≡ decimal (take (min (i + 1) n) bs) % 2 ^ 64
+pub key-more : (bs : List ℕ) (key n i : ℕ) → i < length bs → i < n → key ≡ decimal (take (min i n) bs) % 2 ^ 64 → ((key * 10) % 2 ^ 64 + value-of (getD bs i 0)) % 2 ^ 64 ≡ decimal (take (min (i + 1) n) bs) % 2 ^ 64
 key-more bs key n i h l k =
     let here : min i n ≡ i = min-eq-left (omega arith) in
     let there : min (i + 1) n ≡ i + 1 = min-eq-left (omega arith) in
     let so-far : key ≡ decimal (take i bs) % 2 ^ 64 = rw here at k in
-    let pushed : decimal (take (i + 1) bs) ≡ decimal (take i bs) * 10 + (getD bs i 0 - 0x30) = ap decimal (take-more bs i 0 h) ∙ decimal-push (take i bs) (getD bs i 0) 0 in
-    rw (there, pushed, so-far) (ten-mod (decimal (take i bs)) (getD bs i 0 - 0x30))
+    let pushed : decimal (take (i + 1) bs) ≡ decimal (take i bs) * 10 + value-of (getD bs i 0) = ap (number 10) (map-more value-of bs i 0 h) ∙ number-push 10 (map value-of (take i bs)) (value-of (getD bs i 0)) in
+    rw (there, pushed, so-far) (ten-mod (decimal (take i bs)) (value-of (getD bs i 0)))
 
 pub key-kept : (bs : List ℕ) (key n i : ℕ) → n ≤ i → key ≡ decimal (take (min i n) bs) % 2 ^ 64 → key ≡ decimal (take (min (i + 1) n) bs) % 2 ^ 64
 key-kept bs key n i l k =
@@ -45,20 +43,12 @@ key-whole bs key n i l k =
     let same : take (min i n) bs ≡ take n bs = ⊎-elim (λ (h : n < i). let m : min i n ≡ n = min-eq-right (omega arith) in rw m refl) (λ (h : i ≤ n). let m : min i n ≡ i = min-eq-left h in rw m (take-all i bs l ∙ sym (take-all n bs (omega arith)))) (cases-lt n i) in
     k ∙ ap (λ (xs : List ℕ). decimal xs % 2 ^ 64) same
 
--- a byte that is a digit, and one that is none
-pub digit-true : (b : ℕ) → 0x30 ≤ b → b ≤ 0x39 → is-digit b ≡ true
-digit-true b l h = and-from _ _ (le-leb 0x30 b l) (le-leb b 0x39 h)
-
-pub digit-false : (b : ℕ) → (b < 0x30) ⊎ (0x39 < b) → is-digit b ≡ false
-digit-false b (inl l) = and-left _ _ (lt-leb 0x30 b l)
-digit-false b (inr l) = and-right _ _ (lt-leb b 0x39 l)
-
 -- a digit leads on to the bytes behind it, a byte that is none is the first bad one, and behind the last there is none
-pub bad-more : (bs : List ℕ) (i : ℕ) → i < length bs → is-digit (getD bs i 0) ≡ true → first-bad (drop i bs) i ≡ first-bad (drop (i + 1) bs) (i + 1)
+pub bad-more : (bs : List ℕ) (i : ℕ) → i < length bs → asciiDigit (getD bs i 0) ≡ true → first-bad (drop i bs) i ≡ first-bad (drop (i + 1) bs) (i + 1)
 unfolding first-bad
 bad-more bs i h d = at-drop-more (λ (xs : List ℕ). first-bad xs i) bs i 0 h ∙ cond-true _ _ _ d
 
-pub bad-here : (bs : List ℕ) (i : ℕ) → i < length bs → is-digit (getD bs i 0) ≡ false → first-bad (drop i bs) i ≡ Some i
+pub bad-here : (bs : List ℕ) (i : ℕ) → i < length bs → asciiDigit (getD bs i 0) ≡ false → first-bad (drop i bs) i ≡ Some i
 unfolding first-bad
 bad-here bs i h d = at-drop-more (λ (xs : List ℕ). first-bad xs i) bs i 0 h ∙ cond-false _ _ _ d
 
@@ -71,10 +61,10 @@ pub record Bad (bs : List ℕ) (j i : ℕ) : Type 0 where
   pub place : ℕ
   pub index : i ≡ j + place
   pub within : place < length bs
-  pub none : is-digit (getD bs place 0) ≡ false
+  pub none : asciiDigit (getD bs place 0) ≡ false
   pub before : Digits-below bs place
 
-below-more : (b : ℕ) (bs : List ℕ) (n : ℕ) → is-digit b ≡ true → Digits-below bs n → Digits-below (b ∷ bs) (suc n)
+below-more : (b : ℕ) (bs : List ℕ) (n : ℕ) → asciiDigit b ≡ true → Digits-below bs n → Digits-below (b ∷ bs) (suc n)
 below-more b bs n d all zero h = d
 below-more b bs n d all (suc k) h = all k (le-of-suc-le-suc h)
 
@@ -83,23 +73,23 @@ unfolding first-bad
 found-bad [] j i e = let z : _≡_ {A = ℕ} 0 1 = cc in absurd (omega arith)
 found-bad (b ∷ bs) j i e =
     ⊎-elim
-    (λ (d : is-digit b ≡ true).
+    (λ (d : asciiDigit b ≡ true).
     let f = found-bad bs (j + 1) i (sym (cond-true _ _ _ d) ∙ e) in
     record { place = suc (f .place); index = omega (arith, f .index); within = omega (arith, f .within); none = f .none; before = below-more b bs (f .place) d (f .before) })
-    (λ (d : is-digit b ≡ false).
+    (λ (d : asciiDigit b ≡ false).
     let here : _≡_ {A = Option ℕ} (Some j) (Some i) = sym (cond-false _ _ _ d) ∙ e in
     let same : j ≡ i = cc in
     record { place = 0; index = omega arith; within = omega arith; none = d; before = λ k h. absurd (not-suc-le-zero h) })
-    (cases-bool (is-digit b))
+    (cases-bool (asciiDigit b))
 
 pub found-none : (bs : List ℕ) (j : ℕ) → first-bad bs j ≡ None → Digits-below bs (length bs)
 unfolding first-bad
 found-none [] j e k h = absurd (not-suc-le-zero h)
 found-none (b ∷ bs) j e k h =
     ⊎-elim
-    (λ (d : is-digit b ≡ true). below-more b bs (length bs) d (found-none bs (j + 1) (sym (cond-true _ _ _ d) ∙ e)) k h)
-    (λ (d : is-digit b ≡ false). let here : _≡_ {A = Option ℕ} (Some j) None = sym (cond-false _ _ _ d) ∙ e in let z : _≡_ {A = ℕ} 0 1 = cc in absurd (omega arith))
-    (cases-bool (is-digit b))
+    (λ (d : asciiDigit b ≡ true). below-more b bs (length bs) d (found-none bs (j + 1) (sym (cond-true _ _ _ d) ∙ e)) k h)
+    (λ (d : asciiDigit b ≡ false). let here : _≡_ {A = Option ℕ} (Some j) None = sym (cond-false _ _ _ d) ∙ e in let z : _≡_ {A = ℕ} 0 1 = cc in absurd (omega arith))
+    (cases-bool (asciiDigit b))
 
 -- the last six bytes, as a slice pattern gives them
 pub last-six : (bs : List ℕ) → 6 ≤ length bs → let at : ℕ → ℕ = λ k. getD bs (length bs - k) 0 in at 6 ∷ at 5 ∷ at 4 ∷ at 3 ∷ at 2 ∷ at 1 ∷ [] ≡ drop (length bs - 6) bs

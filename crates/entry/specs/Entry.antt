@@ -6,6 +6,7 @@ use mathlib.Core.Logic.{_⊎_}
 use mathlib.Core.Path.{_≡_}
 use lib.Dec.{eqb, ltb}
 use lib.ListN.{length, getD, take, drop}
+use Rattle.std.specs.Text.{asciiDigit}
 use Rattle.std.specs.declared.option.Option.{Option}
 use Rattle.std.specs.declared.option.Option.the-variants.{Some, None}
 use Rattle.std.specs.declared.result.Result.{Result}
@@ -13,7 +14,7 @@ use Rattle.std.specs.declared.result.Result.the-variants.{Ok, Err}
 use Rattle.auth.specs.Uses.{akey-check-of}
 use Rattle.refusal.specs.declared.Refusal.{Refusal}
 use Rattle.refusal.specs.declared.Refusal.the-variants.{NotADigit, WrongCount, CheckDiffers}
-use Rattle.entry.specs.Digits.{is-digit, first-bad, decimal}
+use Rattle.entry.specs.Digits.{first-bad, decimal}
 
 -- the refusal of the first byte that is no digit, or else r
 abbrev pub unless-bad : Option ℕ → Result ℕ Refusal → Result ℕ Refusal
@@ -44,11 +45,11 @@ entry-read esn bs =
 
 -- every byte below place n is a digit
 abbrev pub Digits-below : List ℕ → ℕ → Type 0
-Digits-below bs n = (k : ℕ) → k < n → is-digit (getD bs k 0) ≡ true
+Digits-below bs n = (k : ℕ) → k < n → asciiDigit (getD bs k 0) ≡ true
 
 -- what each answer says of the entry
 abbrev pub Says : ℕ → List ℕ → Result ℕ Refusal → Type 0
 Says esn bs (Ok key) = (6 ≤ length bs) × (length bs ≤ 26) × Digits-below bs (length bs) × (key ≡ key-of bs) × (check-of bs ≡ right-check esn bs)
 Says esn bs (Err (WrongCount n)) = (n ≡ length bs) × ((n < 6) ⊎ (26 < n))
-Says esn bs (Err (NotADigit i)) = (6 ≤ length bs) × (length bs ≤ 26) × (i < length bs) × (is-digit (getD bs i 0) ≡ false) × Digits-below bs i
+Says esn bs (Err (NotADigit i)) = (6 ≤ length bs) × (length bs ≤ 26) × (i < length bs) × (asciiDigit (getD bs i 0) ≡ false) × Digits-below bs i
 Says esn bs (Err CheckDiffers) = (6 ≤ length bs) × (length bs ≤ 26) × Digits-below bs (length bs) × (check-of bs ≡ right-check esn bs → ⊥)

@@ -1,12 +1,11 @@
 // Reading what a fitter types into a terminal: the digits of its A-key, and behind them six check digits. Public: `read_entry`
 // (a whole entry, with its check) and `read_key` (key digits alone).
-ghost use Prim.Native.Nat.{_-_};
 ghost use lib.ListN.{length};
 ghost use mathlib.Core.List.{[], _∷_};
 ghost use mathlib.Core.Path.{_≡_};
-ghost use Rattle.entry.specs.Digits.{decimal};
+ghost use Rattle.entry.specs.Digits.{value-of, decimal};
 ghost use Rattle.entry.specs.Entry.{digits-read, entry-read, Says};
-use auth::types::AKey;
+use auth::types::TerminalKey;
 use auth::uses::akey_check;
 use refusal::Refusal;
 
@@ -16,7 +15,7 @@ fn read_digits(bytes: &[u8], key_count: usize) -> Result<u64, Refusal>
 {
     let mut key: u64 = 0;
     for (index, byte) in bytes.iter().enumerate() {
-        if *byte < b'0' || *byte > b'9' {
+        if !byte.is_ascii_digit() {
             return Err(Refusal::NotADigit { index });
         }
         if index < key_count {
@@ -28,7 +27,7 @@ fn read_digits(bytes: &[u8], key_count: usize) -> Result<u64, Refusal>
 
 // The value of a digit.
 fn digit(byte: u8) -> u32
-    ensures { λ r. ⌜ r ≡ byte - 0x30 ⌝ }
+    ensures { λ r. ⌜ r ≡ value-of byte ⌝ }
 {
     byte.saturating_sub(b'0') as u32
 }
@@ -60,7 +59,7 @@ pub fn read_entry(esn: u32, typed: &[u8]) -> Result<u64, Refusal>
         return Err(Refusal::WrongCount { count });
     };
     let key = read_digits(typed, head.len())?;
-    if check_number(*a, *b, *c, *d, *e, *f) != akey_check(AKey { esn, key }) {
+    if check_number(*a, *b, *c, *d, *e, *f) != akey_check(TerminalKey { esn, key }) {
         return Err(Refusal::CheckDiffers);
     }
     Ok(key)

@@ -5,10 +5,7 @@ use mathlib.Core.List.{List, [], _∷_, map}
 use lib.Dec.{leb, eqb}
 use lib.ListN.{length, getD}
 use Rattle.std.specs.Iters.{counting}
-
--- '0' to '9'
-abbrev pub is-digit : ℕ → Bool
-is-digit b = leb 0x30 b && leb b 0x39
+use Rattle.std.specs.Text.{asciiDigit}
 
 -- 'A' to 'F'
 abbrev pub is-letter : ℕ → Bool
@@ -16,11 +13,11 @@ is-letter b = leb 0x41 b && leb b 0x46
 
 -- an upper-case hex digit
 abbrev pub is-hex : ℕ → Bool
-is-hex b = is-digit b || is-letter b
+is-hex b = asciiDigit b || is-letter b
 
 -- the value of an upper-case hex digit, 0 for any other byte
 abbrev pub hex-value : ℕ → ℕ
-hex-value b = cond (is-digit b) (b - 0x30) (cond (is-letter b) (b - 0x41 + 10) 0)
+hex-value b = cond (asciiDigit b) (b - 0x30) (cond (is-letter b) (b - 0x41 + 10) 0)
 
 -- every byte is a hex digit
 unfoldable pub all-hex : List ℕ → Bool

@@ -1,10 +1,10 @@
 // Reading a line: the name of a calculation, and its fields.
-use auth::types::AKey;
 use auth::types::AuthData;
 use auth::types::Challenge;
 use auth::types::OpeningRecord;
 use auth::types::RandSsd;
 use auth::types::Renewal;
+use auth::types::TerminalKey;
 use calculations::Calculation;
 use entry::read_key;
 use fields::words::Words;
@@ -78,15 +78,15 @@ fn offset(words: &mut Words) -> Result<u8, Fault> {
     words.next_u8().ok_or(Fault::Field("OFFSET: 2 hex digits"))
 }
 
-fn akey(words: &mut Words) -> Result<AKey, Fault> {
-    Ok(AKey {
+fn terminal_key(words: &mut Words) -> Result<TerminalKey, Fault> {
+    Ok(TerminalKey {
         esn: esn(words)?,
         key: secret(words)?,
     })
 }
 
 fn renewal(words: &mut Words) -> Result<Renewal, Fault> {
-    let of = akey(words)?;
+    let of = terminal_key(words)?;
     Ok(Renewal {
         esn: of.esn,
         key: of.key,
@@ -156,7 +156,7 @@ fn fields_of(name: Name, words: &mut Words) -> Result<Calculation, Fault> {
         match name {
             Name::Lfsr => Calculation::Lfsr(lfsr(words)?),
             Name::AKey => Calculation::Digits(digits(words)?),
-            Name::AKeyCheck => Calculation::Check(akey(words)?),
+            Name::AKeyCheck => Calculation::Check(terminal_key(words)?),
             Name::Ssd => Calculation::NewSsd(renewal(words)?),
             Name::Sign => Calculation::Sign(challenge(words)?),
             Name::SignLeft => Calculation::SignLeft(challenge(words)?),

@@ -1,30 +1,20 @@
 use mathlib.Core.Path.{_≡_, refl, ap, sym, _∙_}
-use mathlib.Core.Bool.{false}
-use mathlib.Core.Logic.{inl, inr}
 use Prim.Native.Nat.{_+_, _%_, _^_, min}
 use native.Mathlib.Nat.{zero-min}
-use lib.ListN.{getD, take}
+use lib.ListN.{take}
 use Rattle.std.specs.declared.result.Result.the-variants.{Ok}
-use Rattle.entry.specs.Digits.{is-digit, decimal, decimal-after}
+use Rattle.entry.specs.Digits.{decimal}
 use Rattle.entry.specs.Entry.{unless-bad}
-use Rattle.entry.proofs.Scan.{key-more, key-kept, key-whole, digit-true, digit-false, bad-more, bad-here, bad-none}
+use Rattle.entry.proofs.Scan.{key-more, key-kept, key-whole, bad-more, bad-here, bad-none}
 use Rattle.entry.proofs.read_digits.Needs as need
-use Rattle.entry.proofs.read_digits.Needs.{then-byte-lt48·by·then-byte-lt48, then-byte-lt48·by·else-byte-lt48·then-byte-gt57, then-index-key-count, else-index-key-count}
+use Rattle.entry.proofs.read_digits.Needs.{then-index-key-count, else-index-key-count}
 
 pub loop-index-holds : need.loop-index-holds
-unfolding decimal-after
 loop-index-holds c = (refl, rw (zero-min (c .args .key-count)) refl)
 
-bad : (c : need.Joined-then-byte-lt48) → is-digit (getD (c .args .bytes .now) (c .loop-index .index) 0) ≡ false
-bad c =
-    elim (c .then-byte-lt48 .came) [
-      | then-byte-lt48·by·then-byte-lt48 w ↦ digit-false _ (inl (w .if-byte-lt48 .taken))
-      | then-byte-lt48·by·else-byte-lt48·then-byte-gt57 w ↦ digit-false _ (inr (w .if-byte-gt57 .taken))
-    ]
-
-pub returns-then-byte-lt48 : need.returns-then-byte-lt48
-returns-then-byte-lt48 c =
-    let found = sym (c .loop-index .inv .0) ∙ bad-here (c .args .bytes .now) (c .loop-index .index) (c .loop-index-test .taken) (bad c) in
+pub returns-then-not-is-ascii-digit : need.returns-then-not-is-ascii-digit
+returns-then-not-is-ascii-digit c =
+    let found = sym (c .loop-index .inv .0) ∙ bad-here (c .args .bytes .now) (c .loop-index .index) (c .loop-index-test .taken) (sym (c .if-not-is-ascii-digit .ensures tt .value)) in
     sym (ap (λ o. unless-bad o (Ok (decimal (take (c .args .key-count) (c .args .bytes .now)) % 2 ^ 64))) found)
 
 key-is : (c : need.Joined-index-key-count) → c .if-index-key-count .key ≡ decimal (take (min (c .loop-index .index + 1) (c .args .key-count)) (c .args .bytes .now)) % 2 ^ 64
@@ -36,7 +26,7 @@ key-is c =
 
 pub loop-index-again : need.loop-index-again
 loop-index-again c =
-    let digit = digit-true _ (c .if-byte-lt48 .left) (c .if-byte-gt57 .left) in
+    let digit = sym (c .if-not-is-ascii-digit .ensures tt .value) in
     (sym (bad-more (c .args .bytes .now) (c .loop-index .index) (c .loop-index-test .taken) digit) ∙ c .loop-index .inv .0, key-is c)
 
 pub returns : need.returns

@@ -1,9 +1,9 @@
 use mathlib.Core.Path.{refl}
-use Rattle.entry.specs.Digits.{first-bad, decimal-after}
+use Rattle.entry.specs.Digits.{first-bad}
 use Rattle.examples.proofs.self_test.Needs as need
 
 pub returns : need.returns
-unfolding first-bad decimal-after
+unfolding first-bad
 returns c =
     record {
       passes = simp (c .gives .ensures, c .gives-2 .ensures, c .gives-3 .ensures, c .gives-4 .ensures, c .lfsr-cycle .ensures, c .lfsr-cycle-2 .ensures, c .lfsr-cycle-3 .ensures);

@@ -1,6 +1,6 @@
 // CAVE, the mixing function of TR45.0.A: sixteen byte registers, a 32-bit LFSR and a 256-entry table, run for four or eight
-// rounds. Public: `cave` (a run), `lfsr_cycle` (one cycle of the LFSR), and in `uses` the trait for a use of CAVE with the one
-// eight-round run for every use.
+// rounds. Public: `cave` (a run), `lfsr_cycle` (one cycle of the LFSR), `entry` (of the table), and in `uses` the trait for a use
+// of CAVE with the one eight-round run for every use.
 ghost use mathlib.Core.Path.{_≡_};
 ghost use Prim.Native.Nat.{_<_, _≤_};
 ghost use Rattle.cave.specs.Law.{Run};
@@ -10,7 +10,7 @@ ghost use Rattle.cave.specs.Table.{Rows-permute};
 
 pub mod lfsr;
 pub mod state;
-mod table;
+pub mod table;
 pub mod uses;
 
 use lfsr::lfsr_cycle;

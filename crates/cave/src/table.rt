@@ -263,7 +263,7 @@ const CAVE_TABLE: [u8; 256] = [
 ];
 
 // One entry of the table.
-pub(crate) fn entry(at: u8) -> u8
+pub fn entry(at: u8) -> u8
     ensures { λ r. ⌜ r ≡ getD table at 0 ⌝ }
 {
     CAVE_TABLE[at as usize]

@@ -12,6 +12,8 @@ pub enum Refusal {
     WrongCount { count: usize },
     // key entry: the six check digits are not the check of the key
     CheckDiffers,
+    // ciphering: a message of a length that the cipher does not take, with how many layers lie above the one that saw it
+    WrongLength { length: usize, layers: u32 },
 }
 
 // The values told with a refusal.
@@ -19,6 +21,7 @@ pub enum Refusal {
 pub enum Told {
     Nothing,
     One(u64),
+    Two(u64, u64),
 }
 
 impl Refusal {
@@ -30,6 +33,7 @@ impl Refusal {
             Refusal::NotADigit { .. } => 1,
             Refusal::WrongCount { .. } => 2,
             Refusal::CheckDiffers => 3,
+            Refusal::WrongLength { .. } => 12,
         }
     }
 
@@ -41,6 +45,7 @@ impl Refusal {
             Refusal::NotADigit { index } => Told::One(index as u64),
             Refusal::WrongCount { count } => Told::One(count as u64),
             Refusal::CheckDiffers => Told::Nothing,
+            Refusal::WrongLength { length, layers } => Told::Two(length as u64, layers as u64),
         }
     }
 }
@@ -52,6 +57,7 @@ pub impl fmt::Display for Refusal as RefusalDisplay {
         match self.told() {
             Told::Nothing => write!(f, "refused {number}"),
             Told::One(value) => write!(f, "refused {number} {value}"),
+            Told::Two(first, second) => write!(f, "refused {number} {first} {second}"),
         }
     }
 }

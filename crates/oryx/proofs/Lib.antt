@@ -1,0 +1,4 @@
+pub mod Turns
+pub mod Masks
+pub mod Once
+pub mod Apart

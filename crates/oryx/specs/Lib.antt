@@ -1,0 +1,4 @@
+pub mod Steps
+pub mod Tables
+pub mod Frames
+pub mod Laws

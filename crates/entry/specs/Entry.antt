@@ -13,7 +13,7 @@ use Rattle.std.specs.declared.result.Result.{Result}
 use Rattle.std.specs.declared.result.Result.the-variants.{Ok, Err}
 use Rattle.auth.specs.Uses.{akey-check-of}
 use Rattle.refusal.specs.declared.Refusal.{Refusal}
-use Rattle.refusal.specs.declared.Refusal.the-variants.{NotADigit, WrongCount, CheckDiffers}
+use Rattle.refusal.specs.declared.Refusal.the-variants.{NotADigit, WrongCount, CheckDiffers, WrongLength}
 use Rattle.entry.specs.Digits.{first-bad, decimal}
 
 -- the refusal of the first byte that is no digit, or else r
@@ -47,9 +47,10 @@ entry-read esn bs =
 abbrev pub Digits-below : List ℕ → ℕ → Type 0
 Digits-below bs n = (k : ℕ) → k < n → asciiDigit (getD bs k 0) ≡ true
 
--- what each answer says of the entry
+-- what each answer says of the entry; no other refusal is an answer to one
 abbrev pub Says : ℕ → List ℕ → Result ℕ Refusal → Type 0
 Says esn bs (Ok key) = (6 ≤ length bs) × (length bs ≤ 26) × Digits-below bs (length bs) × (key ≡ key-of bs) × (check-of bs ≡ right-check esn bs)
 Says esn bs (Err (WrongCount n)) = (n ≡ length bs) × ((n < 6) ⊎ (26 < n))
 Says esn bs (Err (NotADigit i)) = (6 ≤ length bs) × (length bs ≤ 26) × (i < length bs) × (asciiDigit (getD bs i 0) ≡ false) × Digits-below bs i
 Says esn bs (Err CheckDiffers) = (6 ≤ length bs) × (length bs ≤ 26) × Digits-below bs (length bs) × (check-of bs ≡ right-check esn bs → ⊥)
+Says esn bs (Err (WrongLength n layers)) = ⊥

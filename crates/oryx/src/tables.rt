@@ -108,9 +108,10 @@ fn data_key(ssd_b: u64) -> u32
 fn derive(ssd_b: u64, rand: u32) -> OryxCall
     ensures { λ r. ⌜ r ≡ call-of «ssd_b» rand ⌝ }
 {
+    let table = call_table(rand);
     OryxCall {
         data_key: data_key(ssd_b),
-        table: call_table(rand),
+        table,
     }
 }
 

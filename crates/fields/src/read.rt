@@ -1,6 +1,8 @@
 // A hex field as a value of a fixed width.
 ghost use mathlib.Core.Path.{_≡_};
-ghost use Rattle.fields.specs.Fields.{number-read, auth-data-read, rand-ssd-read};
+ghost use lib.ListN.{length};
+ghost use Prim.Native.Nat.{_≤_};
+ghost use Rattle.fields.specs.Fields.{number-read, padded, short-number-read, auth-data-read, rand-ssd-read};
 use auth::types::AuthData;
 use auth::types::RandSsd;
 use hex::read_hex;
@@ -36,6 +38,26 @@ pub(crate) fn read_u64(text: &[u8]) -> Option<u64>
         return None;
     }
     Some(u64::from_be_bytes(bytes))
+}
+
+// At most 8 digits, with zeros in front to make 8.
+fn pad(text: &[u8]) -> [u8; 8]
+    requires { ⌜ length (now text) ≤ 8 ⌝ }
+    ensures { λ r. ⌜ r ≡ padded (now (text .entry)) ⌝ }
+{
+    let mut eight = [b'0'; 8];
+    eight[8 - text.len()..].copy_from_slice(text);
+    eight
+}
+
+// A number of 32 bits in 1 to 8 digits, with or without zeros in front.
+pub(crate) fn read_number(text: &[u8]) -> Option<u32>
+    ensures { λ r. ⌜ r ≡ short-number-read (now (text .entry)) ⌝ }
+{
+    if text.is_empty() || text.len() > 8 {
+        return None;
+    }
+    read_u32(&pad(text))
 }
 
 // AUTH_DATA.

@@ -3,8 +3,9 @@ ghost use lib.ListN.{length};
 ghost use mathlib.Core.Path.{_≡_};
 ghost use Prim.Native.Nat.{_≤_};
 ghost use Rattle.fields.specs.Words.{is-blank, leading, first-word, behind-word};
-ghost use Rattle.fields.specs.Fields.{number-read, auth-data-read, rand-ssd-read};
+ghost use Rattle.fields.specs.Fields.{number-read, short-number-read, auth-data-read, rand-ssd-read};
 use crate::read::read_auth_data;
+use crate::read::read_number;
 use crate::read::read_rand_ssd;
 use crate::read::read_u8;
 use crate::read::read_u32;
@@ -63,6 +64,7 @@ impl<'a> Words<'a> {
     {
         read_u8(self.next_word())
     }
+
     // The next word as a number of 32 bits in hex.
     pub fn next_u32(&mut self) -> Option<u32>
         ensures value { λ r. ⌜ r ≡ number-read (first-word (now (now (self .entry) .rest))) 4 ⌝ }
@@ -77,6 +79,14 @@ impl<'a> Words<'a> {
         ensures rest { λ _. ⌜ now (now (self .exit) .rest) ≡ behind-word (now (now (self .entry) .rest)) ⌝ }
     {
         read_u64(self.next_word())
+    }
+
+    // The next word as a number of 32 bits in 1 to 8 hex digits.
+    pub fn next_number(&mut self) -> Option<u32>
+        ensures value { λ r. ⌜ r ≡ short-number-read (first-word (now (now (self .entry) .rest))) ⌝ }
+        ensures rest { λ _. ⌜ now (now (self .exit) .rest) ≡ behind-word (now (now (self .entry) .rest)) ⌝ }
+    {
+        read_number(self.next_word())
     }
 
     // The next word as AUTH_DATA in hex.

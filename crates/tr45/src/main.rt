@@ -2,29 +2,38 @@
 // ` -> ` and the answer, or ` -> error: ` and why there is none. A line that is empty or begins with `#` is passed over.
 mod request;
 
-use calculations::AnswerDisplay;
+use calculations::Shown;
+use calculations::ShownDisplay;
 use calculations::perform;
 use request::FaultDisplay;
 use request::read_line;
+use std::alloc::Global;
 use std::io;
 use std::io::BufRead;
 use std::io::BufReader;
 
-fn answer(rt: &impl Print, line: &str) -> io::Result<()> {
-    match read_line(line.as_bytes()) {
-        Ok(calculation) => {
-            let answer = perform(calculation);
-            println!(rt, "{line} -> {answer}")
-        }
-        Err(fault) => println!(rt, "{line} -> error: {fault}"),
+fn answer(rt: &impl Print, heap: Global, line: &str) -> io::Result<()> {
+    let request = match read_line(line.as_bytes()) {
+        Ok(request) => request,
+        Err(fault) => return println!(rt, "{line} -> error: {fault}"),
+    };
+    let mut body = Vec::from_elem(heap, 0, request.body.length())?;
+    if let Err(fault) = request.body.fill(&mut body) {
+        return println!(rt, "{line} -> error: {fault}");
     }
+    let answer = perform(request.calculation, &mut body);
+    let shown = Shown {
+        answer,
+        body: &body,
+    };
+    println!(rt, "{line} -> {shown}")
 }
 
 fn main(rt: LibcRuntime) -> io::Result<()> {
     for line in BufReader::new(rt.stdin()).lines(rt.alloc()) {
         let line = line?;
         if !line.is_empty() && !line.as_str().starts_with('#') {
-            answer(&rt, line.as_str())?;
+            answer(&rt, rt.alloc(), line.as_str())?;
         }
     }
     Ok(())

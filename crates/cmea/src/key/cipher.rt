@@ -55,6 +55,7 @@ impl CmeaKey {
     {
         self.at(z ^ (i % 256) as u8)
     }
+
     // The first pass.
     fn raise(&self, message: &mut [u8])
         ensures { λ _. ⌜ now (message .exit) ≡ first-pass (tbox (now (self .entry) .bytes)) 0 0 (now (message .entry)) ⌝ }

@@ -33,6 +33,7 @@ impl OryxCall {
             b: self.data_key ^ second,
         }
     }
+
     // XORs the mask of a frame onto a body of any length; the same again takes it off.
     pub fn cipher(&self, hook: u32, body: &mut [u8])
         ensures after { λ _. ⌜ now (body .exit) ≡ masked (now (self .entry)) hook (now (body .entry)) ⌝ }

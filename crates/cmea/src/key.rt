@@ -4,7 +4,7 @@ ghost use mathlib.Core.Path.{_≡_};
 ghost use lib.ListN.{getD};
 ghost use Rattle.cmea.specs.Substitution.{tbox};
 
-pub mod cipher;
+mod cipher;
 
 #[derive(Clone, Copy)]
 pub struct CmeaKey {

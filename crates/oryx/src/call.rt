@@ -1,6 +1,6 @@
 // What the masks of a call are made with: the DataKey, from SSD_B, and the table, from RAND. Both stay as they are for the whole
 // call.
-pub mod frames;
+mod frames;
 
 #[derive(Clone, Copy)]
 pub struct OryxCall {

@@ -2,6 +2,6 @@
 // frame of a call. Public: `step_k`, `step_a`, `step_b` (one step of a register), and on `OryxCall`, which holds what a call needs:
 // `new`, `mask` (the mask of a frame), `cipher` (a body with the mask XORed onto it).
 pub mod call;
-pub mod registers;
+mod registers;
 pub mod steps;
 mod tables;

@@ -7,7 +7,7 @@ use Rattle.cave.proofs.run_down.Goals as goal
 pub loop-k-preserved : goal.loop-k-preserved
 loop-k-preserved c =
     let p : 0 < c.loop-k.k = omega arith in
-    ap (after_rounds (c.loop-k.k - 1)) c.run-round-m.ensures ∙ sym (rounds_more _ _ p) ∙ c.loop-k.invariant
+    ap (after_rounds (c.loop-k.k - 1)) c.run_round-m.ensures ∙ sym (rounds_more _ _ p) ∙ c.loop-k.invariant
 
 pub returns : goal.returns
 returns c =

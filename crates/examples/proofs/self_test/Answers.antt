@@ -33,6 +33,6 @@ pub returns : goal.returns
 unfolding table tbox first_pass second_pass third_pass image
 returns c =
     record {
-      passes = simp (c.keys-agree.ensures, c.cycles-agree.ensures, c.steps-agree.ensures, c.become-these.ensures, c.become-these-2.ensures);
+      passes = simp (c.keys_agree.ensures, c.cycles_agree.ensures, c.steps_agree.ensures, c.become_these.ensures, c.become_these-2.ensures);
       examples = worked;
     }

@@ -8,11 +8,11 @@ more : (bs : List ℕ) (i : ℕ) (t : Bool) → i < length bs → t ≡ is_hex (
 unfolding all_hex
 more bs i t h d e = ap (λ x. x && all_hex (drop (i + 1) bs)) d ∙ sym (at_drop_more all_hex bs i 0 h) ∙ e
 
-pub returns-then-not-is-hex : goal.returns-then-not-is-hex
-returns-then-not-is-hex c = more c.args.text.now c.loop-b.b-index _ c.loop-b-test.true c.if-not-is-hex.ensures c.loop-b.invariant
+pub returns-then-not-is_hex : goal.returns-then-not-is_hex
+returns-then-not-is_hex c = more c.args.text.now c.loop-b.b-index _ c.loop-b-test.true c.if-not-is_hex.ensures c.loop-b.invariant
 
 pub loop-b-preserved : goal.loop-b-preserved
-loop-b-preserved c = more c.args.text.now c.loop-b.b-index _ c.loop-b-test.true c.if-not-is-hex.ensures c.loop-b.invariant
+loop-b-preserved c = more c.args.text.now c.loop-b.b-index _ c.loop-b-test.true c.if-not-is_hex.ensures c.loop-b.invariant
 
 pub returns : goal.returns
 unfolding all_hex

@@ -16,6 +16,6 @@ two_is o m n z e = e ∙ ap (λ x. after_rounds 4 (rolled o.rand x)) z
 pub returns : goal.returns
 unfolding cmea_key_of
 returns c =
-    let one = one_is c.args.of _ _ c.open-state.ensures c.iterate-one.ensures in
+    let one = one_is c.args.of _ _ c.open_state.ensures c.iterate-one.ensures in
     let two = two_is c.args.of _ _ one c.iterate-two.ensures in
     record { key = simp (one, two); state = two }

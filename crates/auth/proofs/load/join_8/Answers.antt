@@ -4,4 +4,4 @@ use Rattle.auth.proofs.load.join_8.Goals as goal
 
 pub returns : goal.returns
 unfolding wide
-returns c = omega (arith, c.from-be-bytes.ensures)
+returns c = omega (arith, c.from_be_bytes.ensures)

@@ -4,4 +4,4 @@ use Rattle.auth.proofs.load.load_state.Goals as goal
 
 pub returns : goal.returns
 unfolding loading
-returns c = simp (c.to-be-bytes-s.ensures, c.to-be-bytes-e.ensures, div-one)
+returns c = simp (c.to_be_bytes-s.ensures, c.to_be_bytes-e.ensures, div-one)

@@ -8,7 +8,7 @@ returns g c =
     let k = g.C.Cipher.kind c.args.cipher.now in
     let o = g.C.Cipher.keyed c.args.cipher.now in
     let law = g.met.C.Cipher.lawful in
-    let there = c.in-ok-cipher.ensures in
+    let there = c.in_ok-cipher.ensures in
     let back = c.cipher-2.ensures in
     record {
       answer = back.answer ∙ ap (answers k o) c.cipher.auto.body;

@@ -17,4 +17,4 @@ put text last h e =
     put_mid-paste (8 - n) (8 - (8 - n)) (zeros 8) last text n e (omega arith) refl ∙ rw (front, none, take_all n text (omega arith)) (append-nil (padded text))
 
 pub returns : goal.returns
-returns c = put c.args.text.now _ c.requires c.copy-from-slice.ensures.after
+returns c = put c.args.text.now _ c.requires c.copy_from_slice.ensures.after

@@ -6,5 +6,5 @@ use Rattle.fields.proofs.read.read_u64.Goals as goal
 pub returns : goal.returns
 unfolding wide
 returns c =
-    let joined : c.from-be-bytes.result ≡ wide 8 c.read-hex.new.out = omega (arith, c.from-be-bytes.ensures) in
-    number_is _ _ _ _ _ _ c.if-not-read-hex.false c.read-hex.ensures.answer c.read-hex.ensures.after joined
+    let joined : c.from_be_bytes.result ≡ wide 8 c.read_hex.new.out = omega (arith, c.from_be_bytes.ensures) in
+    number_is _ _ _ _ _ _ c.if-not-read_hex.false c.read_hex.ensures.answer c.read_hex.ensures.after joined

@@ -28,17 +28,17 @@ stops blank bs i h e = at_drop_more (leading blank) bs i 0 h ∙ cond-false _ _ 
 pub loop-i-init : goal.loop-i-init
 loop-i-init c = add-zero _
 
-pub returns-then-is-blank-blank : goal.returns-then-is-blank-blank
-returns-then-is-blank-blank c =
+pub returns-then-is_blank-blank : goal.returns-then-is_blank-blank
+returns-then-is_blank-blank c =
     let bs = c.args.text.now in
-    let here = other c.is_blank.result c.args.blank c.if-is-blank-blank.true in
+    let here = other c.is_blank.result c.args.blank c.if-is_blank-blank.true in
     let z = stops c.args.blank bs c.loop-i.i c.loop-i-test.true (rw (← c.is_blank.ensures) here) in
     record { is = omega (arith, z, c.loop-i.invariant); within = omega arith }
 
 pub loop-i-preserved : goal.loop-i-preserved
 loop-i-preserved c =
     let bs = c.args.text.now in
-    let here = same c.is_blank.result c.args.blank c.if-is-blank-blank.false in
+    let here = same c.is_blank.result c.args.blank c.if-is_blank-blank.false in
     let m = counted c.args.blank bs c.loop-i.i c.loop-i-test.true (rw (← c.is_blank.ensures) here) in
     omega (arith, m, c.loop-i.invariant)
 

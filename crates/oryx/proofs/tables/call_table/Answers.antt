@@ -11,8 +11,8 @@ loop-i-init c = (ap length c.ascending-table.ensures ∙ length-range_with_len 0
 
 pub loop-i-preserved : goal.loop-i-preserved
 loop-i-preserved c =
-    let k : c.step-k-k.result ≡ times (c.loop-i.i + 1) step_k c.args.rand = times_more _ _ _ _ _ c.loop-i.invariant.2 c.step-k-k.ensures in (
+    let k : c.step_k-k.result ≡ times (c.loop-i.i + 1) step_k c.args.rand = times_more _ _ _ _ _ c.loop-i.invariant.2 c.step_k-k.ensures in (
       search rules,
-      exchanges_more _ _ _ _ _ _ c.loop-i.invariant.1 k c.high-byte.ensures c.swap.ensures.after,
+      exchanges_more _ _ _ _ _ _ c.loop-i.invariant.1 k c.high_byte.ensures c.swap.ensures.after,
       k,
     )

@@ -10,15 +10,15 @@ unfolding times
 loop-init c = refl
 
 pub loop-preserved : goal.loop-preserved
-loop-preserved c = times_more _ _ _ _ _ c.loop.invariant c.hash-round-s.ensures
+loop-preserved c = times_more _ _ _ _ _ c.loop.invariant c.hash_round-s.ensures
 
 pub returns : goal.returns
 unfolding hash hash_start
 returns c =
-    let a = c.args.ssd-b / 2 ^ 32 in
-    let b = c.args.ssd-b % 2 ^ 32 in
+    let a = c.args.ssd_b / 2 ^ 32 in
+    let b = c.args.ssd_b % 2 ^ 32 in
     let all : c.loop.counter ≡ 32 = omega arith in
-    let t = c.hash-table-k.ensures.table in
-    let k = c.hash-table-k.ensures.k in
+    let t = c.hash_table-k.ensures.table in
+    let k = c.hash_table-k.ensures.k in
     let s : c.loop.s ≡ times 32 (hash_round (hash_table (bit_xor a b))) (hash_start a b) = cc in
     ap joined s

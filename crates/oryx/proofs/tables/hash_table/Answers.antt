@@ -13,8 +13,8 @@ loop-i-init c = search rules
 
 pub loop-i-preserved : goal.loop-i-preserved
 loop-i-preserved c =
-    let k : c.step-k-k.result ≡ times (c.loop-i.i + 1) step_k c.args.start = times_more _ _ _ _ _ c.loop-i.invariant.2 c.step-k-k.ensures in
-    let byte : c.high-byte.result ≡ high (times (c.loop-i.i + 1) step_k c.args.start) = c.high-byte.ensures ∙ ap high k in (
+    let k : c.step_k-k.result ≡ times (c.loop-i.i + 1) step_k c.args.start = times_more _ _ _ _ _ c.loop-i.invariant.2 c.step_k-k.ensures in
+    let byte : c.high_byte.result ≡ high (times (c.loop-i.i + 1) step_k c.args.start) = c.high_byte.ensures ∙ ap high k in (
       length-set _ _ _ ∙ c.loop-i.invariant.0,
       rw byte (fill_by_more (λ (j : ℕ). high (times (j + 1) step_k c.args.start)) c.loop-i.table c.loop-i.i 0 (omega arith) c.loop-i.invariant.1),
       k,

@@ -12,7 +12,7 @@ returns c =
     record {
       answer = search rules;
       after = is;
-      length-stays = ap length is ∙ ciphered_length key old;
+      length_stays = ap length is ∙ ciphered_length key old;
       undoes_itself = ap (ciphered key) is ∙ ciphered_twice key old (search rules);
-      turns-lowest-bit = λ long. subst (TurnsLowestBit old) (sym (is ∙ ciphered_image key old long)) (image_turns key old long);
+      turns_lowest_bit = λ long. subst (TurnsLowestBit old) (sym (is ∙ ciphered_image key old long)) (image_turns key old long);
     }

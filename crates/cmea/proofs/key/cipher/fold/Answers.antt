@@ -14,7 +14,7 @@ loop-i-preserved c =
     let near = c.loop-i.invariant.1 i (omega arith) in
     let far = c.loop-i.invariant.1 (length old - 1 - i) (omega arith) in
     let half : i < length old / 2 = omega arith in
-    let here : c.take-up.result ≡ folded old i = c.take-up.ensures ∙ ap₂ (λ (a b : ℕ). bit_xor a (bit_or b 1)) near far ∙ sym (cond-true _ _ _ (lt-ltb i (length old / 2) half)) in (
+    let here : c.take_up.result ≡ folded old i = c.take_up.ensures ∙ ap₂ (λ (a b : ℕ). bit_xor a (bit_or b 1)) near far ∙ sym (cond-true _ _ _ (lt-ltb i (length old / 2) half)) in (
       rw here (fill_by_more (folded old) c.loop-i.message i 0 (omega arith) c.loop-i.invariant.0),
       λ k h. get_or-set_other c.loop-i.message i k _ 0 (omega arith) ∙ c.loop-i.invariant.1 k (omega arith),
     )

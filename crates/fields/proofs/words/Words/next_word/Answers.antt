@@ -13,5 +13,5 @@ parted line text a n e p q =
 
 pub returns : goal.returns
 returns c =
-    let p = parted c.args.self.now.rest.now _ _ _ refl c.count-leading.ensures.is c.count-leading-n.ensures.is in
+    let p = parted c.args.self.now.rest.now _ _ _ refl c.count_leading.ensures.is c.count_leading-n.ensures.is in
     record { word = p.0; rest = p.1 }

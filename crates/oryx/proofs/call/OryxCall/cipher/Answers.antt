@@ -34,6 +34,6 @@ returns c =
     let is : c.loop-byte.body ≡ masked call c.args.hook old = fill_by_all (masked_byte call c.args.hook old) c.loop-byte.body (length old) 0 c.loop-byte.auto.body (λ k h. c.loop-byte.invariant.1 k (omega arith)) in
     record {
       after = is;
-      length-stays = ap length is ∙ masked_length call c.args.hook old;
+      length_stays = ap length is ∙ masked_length call c.args.hook old;
       undoes_itself = ap (masked call c.args.hook) is ∙ masked_twice call c.args.hook old;
     }

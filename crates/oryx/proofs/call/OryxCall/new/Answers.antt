@@ -10,6 +10,6 @@ returns c =
     let is = sym c.derive.ensures in
     record {
       result = c.derive.ensures;
-      each-once = subst (λ (r : OryxCall). EachOnce r.table) is (table_each_once c.args.rand);
-      starts_apart = subst StartsApart is (starts_apart c.args.ssd-b c.args.rand);
+      each_once = subst (λ (r : OryxCall). EachOnce r.table) is (table_each_once c.args.rand);
+      starts_apart = subst StartsApart is (starts_apart c.args.ssd_b c.args.rand);
     }

@@ -9,7 +9,7 @@ use Rattle.auth.specs.declared.types.OpeningRecord.{OpeningRecord}
 use Rattle.cipher.specs.declared.fault.CipherFault.{CipherFault}
 use Rattle.cipher.specs.declared.head.FromBelow.{FromBelow}
 use Rattle.cipher.specs.Kind.{Kind, Lawful, within, fault_of, sees, answers, ciphered}
-use Rattle.cipher.specs.Head.{headed, below, raised, raised_answer}
+use Rattle.cipher.specs.Head.{headed, below, raised_answer}
 
 pub headed_lawful : (h : ℕ) (k : Kind) → Lawful k → Lawful (headed h k)
 headed_lawful h k law =

@@ -1,5 +1,5 @@
 -- The answer to an entry: how it comes about, and that it says what the law of answers says.
-use Rattle.std.proofs.Common.{◌≡◌, ℕ, ◌-◌, ◌%◌, ◌^◌, ◌≤◌, cond, ◌||◌, eqb, ltb, ◌⊎◌, List, length, take, Some, None, Ok, Err, Option, Result, sym, refl, ap, ◌∙◌, subst, inl, inr, ⊎_elim, arith}
+use Rattle.std.proofs.Common.{◌≡◌, ℕ, ◌-◌, ◌%◌, ◌^◌, ◌≤◌, cond, ◌||◌, eqb, ltb, List, length, take, Some, None, Ok, Err, Option, Result, sym, refl, ap, ◌∙◌, subst, inl, inr, ⊎_elim, arith}
 use Rattle.std.proofs.lemmas.Bool.{or_cases, or_parts, ltb-true, ltb-false, eqb-true, eqb-false, eq-eqb, ne_eqb, or_from, le-ltb, cond_both, cond-true, cond-false}
 use Rattle.auth.specs.Uses.{akey_check_of}
 use Rattle.refusal.specs.declared.Refusal.{Refusal}

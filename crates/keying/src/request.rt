@@ -18,7 +18,7 @@ pub(crate) fn read_request(line: &[u8]) -> Result<Request<'_>, &'static str> {
     if word.is_empty() {
         return Err("DIGITS: as typed, or - for none");
     }
-    let typed = if word == b"-" { b"" } else { word };
+    let typed = if word == b"-".as_slice() { b"" } else { word };
     let rand_ssd = words.next_rand_ssd().ok_or("RANDSSD: 14 hex digits")?;
     let rand = words.next_u32().ok_or("RAND: 8 hex digits")?;
     let auth_data = words.next_auth_data().ok_or("AUTH_DATA: 6 hex digits")?;

@@ -227,7 +227,7 @@ impl<'a> Fields<'a> {
 }
 
 fn read_digits(word: &[u8]) -> Option<u64> {
-    if word == b"-" {
+    if word == b"-".as_slice() {
         return Some(0);
     }
     if word.is_empty() || word.len() > 20 {
@@ -241,7 +241,7 @@ fn read_message<'a>(word: &'a [u8]) -> Option<Body<'a>> {
     if word.is_empty() {
         return None;
     }
-    if word == b"-" {
+    if word == b"-".as_slice() {
         return Some(Body::Room(0));
     }
     Some(Body::Hex(word))

@@ -4,14 +4,14 @@ use Rattle.std.proofs.lemmas.List.Edits.{fill_by_more}
 use Rattle.std.proofs.lemmas.Bool.{cond-true, cond-false, and_from, and_left, and_right, eq-eqb, ne_eqb}
 use Rattle.hex_field.specs.Hex.{is_field, field_byte, field_bytes}
 use Rattle.hex_field.proofs.read_hex.Goals as goal
-use Rattle.hex_field.proofs.read_hex.Goals.{then-text_out-via-then-text-out, then-text_out-via-else-text-out+then-not-all_hex}
+use Rattle.hex_field.proofs.read_hex.Goals.{then-text-out-via-then-text-out, then-text-out-via-else-text-out+then-not-all_hex}
 
 no_field : (c : goal.Joined-then-text-out) → is_field c.args.text.now (length c.args.out.now) ≡ false
 unfolding is_field
 no_field c =
     elim c.then-text-out.branch [
-      | then-text_out-via-then-text-out w ↦ and_left _ _ (ne_eqb (length c.args.text.now) (2 * length c.args.out.now) (λ h. omega arith))
-      | then-text_out-via-else-text-out+then-not-all_hex w ↦ and_right _ _ (sym w.if-not-all_hex.ensures)
+      | then-text-out-via-then-text-out w ↦ and_left _ _ (ne_eqb (length c.args.text.now) (2 * length c.args.out.now) (λ h. omega arith))
+      | then-text-out-via-else-text-out+then-not-all_hex w ↦ and_right _ _ (sym w.if-not-all_hex.ensures)
     ]
 
 pub returns-then-text-out : goal.returns-then-text-out

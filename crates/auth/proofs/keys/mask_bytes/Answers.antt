@@ -15,7 +15,7 @@ unfolding iteration
 more o n k e = rw (e, add-one) refl
 
 -- the state that byte k is read off
-state : (c : goal.After-out-in-loop-k·1) → c.if-at-eq0.m ≡ iteration c.args.of (c.loop-k.k / 6 + 3)
+state : (c : goal.After-out-in-loop-k-1) → c.if-at-eq0.m ≡ iteration c.args.of (c.loop-k.k / 6 + 3)
 state c =
     elim c.if-at-eq0.branch [
       | then-at-eq0 w ↦

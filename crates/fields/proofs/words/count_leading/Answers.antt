@@ -2,7 +2,7 @@ use Rattle.std.proofs.Common.{◌≡◌, ℕ, ◌+◌, ◌<◌, Bool, true, fals
 use mathlib.Core.Bool.{beq}
 use Rattle.std.proofs.lemmas.List.{at_drop_more, at_drop_all}
 use Rattle.std.proofs.lemmas.Bool.{cond-true, cond-false, false≢true, true≢false}
-use Rattle.fields.specs.Words.{is_blank, alike, leading}
+use Rattle.fields.specs.Words.{alike, leading}
 use Rattle.fields.proofs.words.count_leading.Goals as goal
 
 same : (t blank : Bool) → not (beq t blank) ≡ false → cond blank t (not t) ≡ true

@@ -3,7 +3,7 @@ ghost use Rattle.std.specs.Prelude.{◌≡◌, length, None};
 ghost use Rattle.cipher.specs.Kind.{answers};
 ghost use Rattle.cipher.specs.Trip.{Returns};
 ghost use Rattle.kinds.specs.Kinds.{cmea_kind, cmea_keyed};
-ghost use Rattle.std.proofs.Common.{rules};
+ghost use Rattle.kinds.specs.Laws.{cmea_lawful};
 
 use crate::held::CmeaHeld;
 use auth::keys::cmea_key;
@@ -35,7 +35,7 @@ impl Cipher for CmeaCipher {
 
     ghost kind = { λ c. cmea_kind };
 
-    ghost lawful = { Prim.search rules };
+    ghost lawful = { λ c. cmea_lawful };
 
     fn key(&mut self, opening: OpeningRecord) {
         let key = CmeaKey::new(cmea_key(opening));

@@ -3,7 +3,7 @@ ghost use Rattle.std.specs.Prelude.{◌≡◌, length, None};
 ghost use Rattle.cipher.specs.Kind.{answers};
 ghost use Rattle.cipher.specs.Trip.{Returns};
 ghost use Rattle.kinds.specs.Kinds.{oryx_kind, oryx_keyed};
-ghost use Rattle.std.proofs.Common.{rules};
+ghost use Rattle.kinds.specs.Laws.{oryx_lawful};
 
 use crate::held::OryxHeld;
 use auth::types::OpeningRecord;
@@ -34,7 +34,7 @@ impl Cipher for OryxCipher {
 
     ghost kind = { λ c. oryx_kind };
 
-    ghost lawful = { Prim.search rules };
+    ghost lawful = { λ c. oryx_lawful };
 
     fn key(&mut self, opening: OpeningRecord) {
         let call = OryxCall::new(opening.ssd_b, opening.rand);

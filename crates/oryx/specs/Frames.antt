@@ -8,7 +8,7 @@ use Rattle.oryx.specs.Tables.{data_key, call_table}
 
 -- what a call with this SSD_B and this RAND needs
 abbrev pub call_of : ℕ → ℕ → OryxCall
-call_of ssd-b rand = record { data_key = data_key ssd-b; table = call_table rand }
+call_of ssd_b rand = record { data_key = data_key ssd_b; table = call_table rand }
 
 -- the byte n bits up in a HOOK, looked up at its sum with the lowest byte
 abbrev pub looked_up : List ℕ → ℕ → ℕ → ℕ

@@ -52,4 +52,4 @@ hash a b = joined (times 32 (hash_round (hash_table (bit_xor a b))) (hash_start 
 
 -- the DataKey of SSD_B
 abbrev pub data_key : ℕ → ℕ
-data_key ssd-b = hash (ssd-b / 2 ^ 32) (ssd-b % 2 ^ 32)
+data_key ssd_b = hash (ssd_b / 2 ^ 32) (ssd_b % 2 ^ 32)

@@ -1,0 +1,38 @@
+-- The law of each kind, from the laws of its cipher.
+use Rattle.std.specs.Prelude.{ℕ, ◌<◌, ◌≤◌, List, length, slice_index}
+use Rattle.std.proofs.Common.{get_or, ⊎_elim, arith}
+use Rattle.std.proofs.ByRecursion.{All-get_or}
+use Rattle.std.proofs.lemmas.Bool.{cases_lt}
+use Rattle.std.proofs.lemmas.List.{get_or_past}
+use Rattle.auth.specs.Keys.{cmea_key_of}
+use Rattle.cipher.specs.Kind.{Lawful, Bytes}
+use Rattle.cmea.proofs.Laws.{image_length, image_twice}
+use Rattle.oryx.proofs.Masks.{masked_length, masked_twice}
+use Rattle.oryx.specs.Frames.{call_of}
+use Rattle.kinds.specs.Kinds.{cmea_kind, oryx_kind}
+
+-- a list of bytes is read as bytes at every place, with 0 past its end
+bytes_at : (xs : List ℕ) → Bytes xs → (k : ℕ) → get_or xs k 0 < 256
+bytes_at xs bytes k =
+    ⊎_elim
+    (λ (inside : k < length xs). All-get_or (λ x. x < 256) xs k 0 inside bytes)
+    (λ (past : length xs ≤ k). rw (get_or_past xs k 0 past) (omega arith))
+    (cases_lt k (length xs))
+
+-- CMEA keeps the length and undoes itself
+pub cmea_lawful : Lawful cmea_kind
+cmea_lawful =
+    record {
+      small = omega arith;
+      same_length = λ o hook xs bytes low high. image_length (cmea_key_of o) xs;
+      undoes_itself = λ o hook xs bytes low high. image_twice (cmea_key_of o) xs (bytes_at xs bytes);
+    }
+
+-- ORYX keeps the length and undoes itself
+pub oryx_lawful : Lawful oryx_kind
+oryx_lawful =
+    record {
+      small = omega arith;
+      same_length = λ o hook xs bytes low high. masked_length (call_of o.ssd_b o.rand) hook xs;
+      undoes_itself = λ o hook xs bytes low high. masked_twice (call_of o.ssd_b o.rand) hook xs;
+    }

@@ -1,6 +1,6 @@
 -- Ciphering twice gives the body back.
 use Rattle.std.proofs.Common.{◌≡◌, ℕ, ◌<◌, true, false, leb, List, length, get_or, Some, None, Option, refl, ap, ◌∙◌, ⊎_elim, w8, Fits}
-use Rattle.std.proofs.ByRecursion.{All-from_get_or}
+use Rattle.std.proofs.lemmas.List.Elements.{All-from_get_or}
 use Rattle.std.proofs.lemmas.Bool.{cases_Bool, cond-true, cond-false, and_parts, leb-true}
 use Rattle.auth.specs.declared.types.OpeningRecord.{OpeningRecord}
 use Rattle.cipher.specs.Kind.{Kind, Lawful, Bytes, within, ciphered}

@@ -1,6 +1,5 @@
 -- What a cipher kind is, its law, and what ciphering answers and leaves.
-use Rattle.std.specs.Prelude.{◌≡◌, ℕ, ◌<◌, ◌≤◌, Bool, cond, ◌&&◌, List, length, Some, None, Ok, Err, Option, Result, nat_le}
-use Rattle.std.specs.List.{AllByRecursion as All}
+use Rattle.std.specs.Prelude.{◌≡◌, ℕ, ◌<◌, ◌≤◌, Bool, cond, ◌&&◌, List, All, length, Some, None, Ok, Err, Option, Result, nat_le}
 use Rattle.auth.specs.declared.types.OpeningRecord.{OpeningRecord}
 use Rattle.cipher.specs.declared.fault.CipherFault.{CipherFault}
 use Rattle.cipher.specs.declared.fault.CipherFault.TheVariants.{NotKeyed, WrongLength}

@@ -1,11 +1,11 @@
 -- The table of a call is the numbers 0 to 255, shuffled, so it holds each once.
 use Rattle.std.proofs.Common.{◌≡◌, ℕ, zero, suc, ◌+◌, ◌<◌, ◌≤◌, cond, eqb, List, ◌∷◌, length, get_or, take, count_by, refl, ap, ◌∙◌, ⊎_elim, arith}
-use Rattle.std.specs.List.{range_with_len, swap, AllByRecursion as All}
+use Rattle.std.specs.List.{range_with_len, swap, All}
 use Rattle.std.specs.List.Sorted.{IsPermutation}
 use Rattle.std.proofs.lemmas.List.FromFn.{length-range_with_len, get_or-range_with_len}
-use Rattle.std.proofs.ByRecursion.{All-get_or, All-from_get_or, all_shuffled}
+use Rattle.std.proofs.lemmas.List.Elements.{All-get_or, All-from_get_or}
 use Rattle.std.proofs.lemmas.List.{get_or-take, length-take-le}
-use Rattle.std.proofs.lemmas.List.Sorted.{IsPermutation-refl, length_permutation, sum_by-IsPermutation}
+use Rattle.std.proofs.lemmas.List.Sorted.{IsPermutation-refl, All-permutation, length_permutation, sum_by-IsPermutation}
 use Rattle.std.proofs.lemmas.List.Sums.{sum_by-cons, sum_by-take-le, get_or-le-sum_by, count_by_more_yes}
 use Rattle.std.proofs.lemmas.Bool.{cases_eq, cases_lt, eq-eqb, ne_eqb}
 use Rattle.oryx.specs.Steps.{times, high, step_k}
@@ -52,7 +52,7 @@ table_each_once rand =
 pub table_bytes : (rand i : ℕ) → i < 256 → get_or (call_table rand) i 0 < 256
 table_bytes rand i h =
     let start : All (λ (x : ℕ). x < 256) (range_with_len 0 256) = All-from_get_or (λ (x : ℕ). x < 256) (range_with_len 0 256) 0 (λ j l. omega (arith, get_or-range_with_len 0 256 j 0 l)) in
-    All-get_or (λ (x : ℕ). x < 256) (call_table rand) i 0 (omega (arith, (table_each_once rand).long)) (all_shuffled (λ (x : ℕ). x < 256) _ _ (table_shuffled rand) start)
+    All-get_or (λ (x : ℕ). x < 256) (call_table rand) i 0 (omega (arith, (table_each_once rand).long)) (All-permutation (λ (x : ℕ). x < 256) _ _ (table_shuffled rand) start)
 
 -- what stands at two places is counted twice
 twice : (xs : List ℕ) (v i j : ℕ) → i < j → j < length xs → v ≡ get_or xs i 0 → v ≡ get_or xs j 0 → 2 ≤ count_by (eqb v) xs

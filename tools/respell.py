@@ -3,7 +3,8 @@
 
 usage: python3 tools/respell.py     at the top of a checkout that port.py has turned, once
 
-- Definitions, lemmas, fields and local names of specs/ and proofs/ go from dashes to snake case, types and facts to camel case.
+- Definitions, lemmas, fields and local names of specs/ and proofs/ (but for a variable that only stands on the left of an equation)
+  go from dashes to snake case, types and facts to camel case.
   Names that Rattle makes (of goals, steps and invariants) and names of the kit's library keep theirs, and so does all Rattle code.
 - The crate hex becomes hex_field, since the kit has a library of the name hex.
 - Each root file asks for the tactics, `#![tactic(auto)]`.

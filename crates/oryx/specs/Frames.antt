@@ -4,11 +4,11 @@ use Rattle.std.specs.List.{range_with_len}
 use Rattle.oryx.specs.declared.registers.Registers.{Registers}
 use Rattle.oryx.specs.declared.call.OryxCall.{OryxCall}
 use Rattle.oryx.specs.Steps.{times, byte, step_k, stepped, key_byte}
-use Rattle.oryx.specs.Tables.{data_key, call_table}
+use Rattle.oryx.specs.Tables.{data_key_of, call_table}
 
 -- what a call with this SSD_B and this RAND needs
 abbrev pub call_of : ℕ → ℕ → OryxCall
-call_of ssd_b rand = record { data_key = data_key ssd_b; table = call_table rand }
+call_of ssd_b rand = record { data_key = data_key_of ssd_b; table = call_table rand }
 
 -- the byte n bits up in a HOOK, looked up at its sum with the lowest byte
 abbrev pub looked_up : List ℕ → ℕ → ℕ → ℕ

@@ -51,5 +51,5 @@ unfoldable pub hash : ℕ → ℕ → ℕ
 hash a b = joined (times 32 (hash_round (hash_table (bit_xor a b))) (hash_start a b))
 
 -- the DataKey of SSD_B
-abbrev pub data_key : ℕ → ℕ
-data_key ssd_b = hash (ssd_b / 2 ^ 32) (ssd_b % 2 ^ 32)
+abbrev pub data_key_of : ℕ → ℕ
+data_key_of ssd_b = hash (ssd_b / 2 ^ 32) (ssd_b % 2 ^ 32)

@@ -4,7 +4,7 @@ ghost use Rattle.std.specs.List.{range_with_len};
 ghost use Rattle.oryx.specs.Steps.{times, step_k};
 ghost use Rattle.oryx.specs.Laws.{EachOnce, StartsApart};
 ghost use Rattle.oryx.specs.Frames.{call_of};
-ghost use Rattle.oryx.specs.Tables.{call_table, hash_table, into_a, into_b, into_k, hash_round, data_key};
+ghost use Rattle.oryx.specs.Tables.{call_table, hash_table, into_a, into_b, into_k, hash_round, data_key_of};
 
 use crate::call::OryxCall;
 use crate::registers::Registers;
@@ -92,7 +92,7 @@ impl Registers {
 
 // The DataKey of SSD_B: its halves, hashed for 32 rounds.
 fn data_key(ssd_b: u64) -> u32
-    ensures { result ≡ data_key ssd_b }
+    ensures { result ≡ data_key_of ssd_b }
 {
     let a = (ssd_b >> 32) as u32;
     let b = (ssd_b % 0x1_0000_0000) as u32;

@@ -1,4 +1,4 @@
 pub mod Kind
 pub mod Head
 pub mod Trip
-pub mod Headed
+pub mod Laws

@@ -3,7 +3,7 @@
 ghost use Rattle.std.specs.Prelude.{◌≡◌, min, length};
 ghost use Rattle.cipher.specs.Kind.{answers, ciphered};
 ghost use Rattle.cipher.specs.Head.{headed, raised, raised_answer};
-ghost use Rattle.cipher.specs.Headed.{headed_lawful};
+ghost use Rattle.cipher.specs.Laws.{headed_lawful};
 
 use crate::fault::CipherFault;
 use crate::kind::{Cipher, check_length};

@@ -8,11 +8,11 @@ use Rattle.oryx.specs.Frames.{call_of, masked}
 use Rattle.kinds.specs.declared.held.CmeaHeld.{CmeaHeld}
 use Rattle.kinds.specs.declared.held.OryxHeld.{OryxHeld}
 
--- CMEA: from two bytes on, under the CMEA key of the call; every frame alike
+-- CMEA: from 2 bytes to 64, as every kind, under the CMEA key of the call; every frame alike
 abbrev pub cmea_kind : Kind
 cmea_kind = record { least = 2; image = λ o hook xs. cmea_image (cmea_key_of o) xs; tells = here }
 
--- ORYX: any length, with the mask of the frame XORed onto the body
+-- ORYX: from 0 bytes on, with the mask of the frame XORed onto the body
 abbrev pub oryx_kind : Kind
 oryx_kind = record { least = 0; image = λ o hook xs. masked (call_of o.ssd_b o.rand) hook xs; tells = here }
 

@@ -1,4 +1,4 @@
-// The CMEA kind: bodies of two bytes or more, under the CMEA key of the call. It does not look at the HOOK.
+// The CMEA kind: bodies of 2 to 64 bytes, under the CMEA key of the call. It does not look at the HOOK.
 ghost use Rattle.std.specs.Prelude.{◌≡◌, length, None};
 ghost use Rattle.cipher.specs.Kind.{answers};
 ghost use Rattle.cipher.specs.Trip.{Returns};

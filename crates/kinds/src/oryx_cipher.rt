@@ -1,4 +1,4 @@
-// The ORYX kind: bodies of any length, each under the mask of its HOOK.
+// The ORYX kind: bodies of up to 64 bytes, each under the mask of its HOOK.
 ghost use Rattle.std.specs.Prelude.{◌≡◌, length, None};
 ghost use Rattle.cipher.specs.Kind.{answers};
 ghost use Rattle.cipher.specs.Trip.{Returns};

@@ -1,6 +1,6 @@
 use Rattle.std.proofs.Common.{length}
 use Rattle.std.proofs.lemmas.Result.{err_from_is_err_and}
-use Rattle.cipher.specs.Headed.{within_from_sees, head_answers, head_leaves}
+use Rattle.cipher.proofs.Headed.{within_from_sees, head_answers, head_leaves}
 use Rattle.cipher.proofs.head.ClearHeadCipher.cipher.Goals as goal
 
 pub returns-in_err-hand_on : goal.returns-in_err-hand_on

@@ -1,30 +1,14 @@
--- The law of a clear head from that of the kind below, and what it answers and leaves.
-use Rattle.std.specs.Prelude.{◌≡◌, ℕ, ◌-◌, ◌<◌, ◌≤◌, true, false, cond, List, [], ◌++◌, length, take, drop, Some, None, Ok, Err, Option, Result, refl}
-use Rattle.std.proofs.Common.{sym, ap, ap₂, ◌∙◌, arith, length-append, length-take, length-drop, take-append-drop}
+-- What a clear head answers and leaves, from what the kind below does.
+use Rattle.std.specs.Prelude.{◌≡◌, ℕ, ◌-◌, ◌≤◌, true, false, cond, List, [], ◌++◌, length, take, drop, Some, None, Ok, Err, Option, Result, refl}
+use Rattle.std.proofs.Common.{sym, ap, ◌∙◌, arith, length-drop, take-append-drop}
 use borrow.Rule.Slice.PartMut.{put_mid}
-use Rattle.std.proofs.lemmas.List.Elements.{All-drop}
-use Rattle.std.proofs.lemmas.List.{take_at, drop_at, drop_all, append-nil, length-take-le, take_rest}
+use Rattle.std.proofs.lemmas.List.{drop_all, append-nil, take_rest}
 use Rattle.std.proofs.lemmas.Bool.Decides.{nat_tests}
 use Rattle.auth.specs.declared.types.OpeningRecord.{OpeningRecord}
 use Rattle.cipher.specs.declared.fault.CipherFault.{CipherFault}
 use Rattle.cipher.specs.declared.head.FromBelow.{FromBelow}
-use Rattle.cipher.specs.Kind.{Kind, Lawful, within, fault_of, sees, answers, ciphered}
+use Rattle.cipher.specs.Kind.{Kind, within, fault_of, sees, answers, ciphered}
 use Rattle.cipher.specs.Head.{headed, below, raised_answer}
-
-pub headed_lawful : (h : ℕ) (k : Kind) → Lawful k → Lawful (headed h k)
-headed_lawful h k law =
-    record {
-      small = omega arith;
-      same_length = λ o hook xs bytes low high.
-          let inner = law.same_length o hook (drop h xs) (All-drop (λ x. x < 256) h xs bytes) (simp length-drop (omega arith)) (simp length-drop (omega arith)) in
-          simp (length-append, length-take, inner, length-drop) (omega arith);
-      undoes_itself = λ o hook xs bytes low high.
-          let front : length (take h xs) ≡ h = length-take-le h xs (omega arith) in
-          let inner = law.undoes_itself o hook (drop h xs) (All-drop (λ x. x < 256) h xs bytes) (simp length-drop (omega arith)) (simp length-drop (omega arith)) in
-          ap₂ (λ (a b : List ℕ). a ++ k.image o hook b) (take_at (take h xs) (k.image o hook (drop h xs)) h front) (drop_at (take h xs) (k.image o hook (drop h xs)) h front)
-          ∙ ap (λ (b : List ℕ). take h xs ++ b) inner
-          ∙ take-append-drop h xs;
-    }
 
 -- a length that was not refused
 pub within_from_sees : (least n : ℕ) (done : Unit {0}) → Ok done ≡ sees least n → (least ≤ n) × (n ≤ 64)

@@ -1,10 +1,9 @@
 -- Worked examples, reckoned by hand, of the definitions that the contracts cite. They are one list, proved as a whole.
-use Rattle.std.specs.Prelude.{◌≡◌, ℕ, ◌^◌, ◌<◌, ◌≤◌, Bool, false, ◌&&◌, List, [], ◌∷◌, replicate, Ok, Err, codes, Result, ◌==◌, slice_index}
+use Rattle.std.specs.Prelude.{◌≡◌, ℕ, ◌^◌, ◌<◌, ◌≤◌, List, [], ◌∷◌, replicate, Ok, codes}
 use Rattle.cave.specs.Lfsr.{cycled}
 use Rattle.cmea.specs.Ciphering.{ciphered}
 use Rattle.entry.specs.Entry.{digits_read}
 use Rattle.oryx.specs.Steps.{step_k, step_a, step_b}
-use Rattle.refusal.specs.declared.Refusal.{Refusal}
 
 -- twenty key digits give a key
 abbrev pub Gives : List ℕ → ℕ → Type 0
@@ -33,12 +32,3 @@ pub record WorkedExamples : Type 0 where
   -- two bytes ciphered under the CMEA key of zeros, there and back
   pub cmea_there : ciphered (replicate 8 0) (0x00 ∷ 0x00 ∷ []) ≡ 0xF1 ∷ 0xAF ∷ []
   pub cmea_back : ciphered (replicate 8 0) (0xF1 ∷ 0xAF ∷ []) ≡ 0x00 ∷ 0x00 ∷ []
-
--- an answer is this key
-abbrev pub is_key : Result ℕ Refusal → ℕ → Bool
-is_key (Ok read) key = read == key
-is_key (Err e) key = false
-
--- two bytes are these
-abbrev pub are_these : List ℕ → List ℕ → Bool
-are_these bytes these = slice_index bytes 0 == slice_index these 0 && slice_index bytes 1 == slice_index these 1

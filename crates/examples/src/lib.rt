@@ -1,8 +1,8 @@
 // The worked examples, as a known-answer test of the running code and as one proved list. Public: `self_test`.
 #![tactic(auto)]
 
-ghost use Rattle.std.specs.Prelude.{◌≡◌, true, length, replicate};
-ghost use Rattle.examples.specs.Examples.{WorkedExamples, is_key, are_these};
+ghost use Rattle.std.specs.Prelude.{◌≡◌, ◌↔◌, Ok, true, length, replicate, IsTrue};
+ghost use Rattle.examples.specs.Examples.{WorkedExamples};
 ghost use Rattle.entry.specs.Entry.{digits_read};
 ghost use Rattle.cmea.specs.Ciphering.{ciphered};
 
@@ -13,12 +13,9 @@ use oryx::steps::{step_a, step_b, step_k};
 
 // Whether key digits give this key.
 fn gives(digits: &[u8], key: u64) -> bool
-    ensures { result ≡ is_key (digits_read digits.now (length digits.now)) key }
+    ensures { IsTrue result ↔ (digits_read digits.now (length digits.now) ≡ Ok key) }
 {
-    match read_key(digits) {
-        Ok(read) => read == key,
-        Err(_) => false,
-    }
+    read_key(digits) == Ok(key)
 }
 
 // Whether the key digits agree.
@@ -54,11 +51,10 @@ fn steps_agree() -> bool
 
 // Whether two bytes, ciphered under the CMEA key of zeros, become these.
 fn become_these(message: [u8; 2], these: [u8; 2]) -> bool
-    ensures { result ≡ are_these (ciphered (replicate 8 0) message) these }
+    ensures { IsTrue result ↔ (ciphered (replicate 8 0) message ≡ these) }
 {
-    let mut message = message;
-    let answer = CmeaKey::new([0; 8]).cipher(&mut message);
-    answer.is_ok() && message[0] == these[0] && message[1] == these[1]
+    let mut bytes = message;
+    CmeaKey::new([0; 8]).cipher(&mut bytes) == Ok(()) && bytes == these
 }
 
 // Runs every worked example, and answers whether the code agrees with all of them.

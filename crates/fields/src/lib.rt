@@ -1,7 +1,8 @@
-// The fields of the programs' lines: words between blanks, and hex fields of a fixed width, two upper-case digits a byte, most
-// significant first, or a number of 1 to 8 digits. Public, on `Words`: `new`, `next_word`, `next_u8`, `next_u32`, `next_u64`,
-// `next_number`, `next_auth_data`, `next_rand_ssd`.
+// What the programs read of a line: its words, and the values that they write in hex. Public: in `words`, `Words` with `new`,
+// `next_word`, `next_field` and `next_number`; in `field`, the trait `Field` of the values that a hex field of a fixed width writes;
+// in `expected`, the error that says what should have stood there.
 #![tactic(auto)]
 
-mod read;
+pub mod expected;
+pub mod field;
 pub mod words;

@@ -1,10 +1,10 @@
 // The words of a line, taken one by one from the front.
-ghost use Rattle.std.specs.Prelude.{◌≡◌, ◌≤◌, length};
-ghost use Rattle.fields.specs.Words.{is_blank, leading, first_word, behind_word};
-ghost use Rattle.fields.specs.Fields.{number_read, short_number_read, auth_data_read, rand_ssd_read};
+ghost use Rattle.std.specs.Prelude.{◌≡◌, ◌≤◌, length, take_while};
+ghost use Rattle.std.specs.Option.{option_copied};
+ghost use Rattle.fields.specs.Words.{is_blank, solid, first_word, behind_word, unless_empty};
+ghost use Rattle.fields.specs.Fields.{padded, value_read, short_number_read};
 
-use crate::read::{read_auth_data, read_number, read_rand_ssd, read_u8, read_u32, read_u64};
-use auth::types::{AuthData, RandSsd};
+use crate::field::Field;
 
 #[derive(Clone, Copy)]
 pub struct Words<'a> {
@@ -14,20 +14,41 @@ pub struct Words<'a> {
 fn is_blank(byte: u8) -> bool
     ensures { result ≡ is_blank byte }
 {
-    byte == b' ' || byte == b'\t' || byte == b'\r'
+    matches!(byte, b' ' | b'\t' | b'\r')
 }
 
-// How many bytes in front are blank, or are not.
-fn count_leading(text: &[u8], blank: bool) -> usize
-    ensures is { result ≡ leading blank text.now }
-    ensures within { result ≤ length text.now }
+// How many bytes in front are blank.
+fn count_blanks(line: &[u8]) -> usize
+    ensures { result ≡ length (take_while is_blank line.now) }
 {
-    for (i, byte) in text.iter().enumerate() {
-        if is_blank(*byte) != blank {
-            return i;
-        }
+    line.iter().take_while(|b| is_blank(**b)).count()
+}
+
+// How many bytes in front are not.
+fn word_length(text: &[u8]) -> usize
+    ensures { result ≡ length (solid text.now) }
+{
+    text.iter().take_while(|b| !is_blank(**b)).count()
+}
+
+// At most 8 digits, with zeros in front to make 8.
+fn pad(text: &[u8]) -> [u8; 8]
+    requires { length text.now ≤ 8 }
+    ensures { result ≡ padded text.now }
+{
+    let mut eight = [b'0'; 8];
+    eight[8 - text.len()..].copy_from_slice(text);
+    eight
+}
+
+// A number of 32 bits in 1 to 8 digits, with or without zeros in front.
+fn read_number(text: &[u8]) -> Option<u32>
+    ensures { result ≡ short_number_read text.now }
+{
+    if text.is_empty() || text.len() > 8 {
+        return None;
     }
-    text.len()
+    u32::read(&pad(text))
 }
 
 impl<'a> Words<'a> {
@@ -38,40 +59,23 @@ impl<'a> Words<'a> {
         Words { rest: line }
     }
 
-    // The next word; an empty one where there is none.
-    pub fn next_word(&mut self) -> &'a [u8]
-        ensures word { result.now ≡ first_word self.old.rest.now }
+    // The next word, if there is one.
+    pub fn next_word(&mut self) -> Option<&'a [u8]>
+        ensures word { option_copied result ≡ unless_empty (first_word self.old.rest.now) }
         ensures rest { self.new.rest.now ≡ behind_word self.old.rest.now }
     {
-        let line = self.rest;
-        let text = &line[count_leading(line, true)..];
-        let n = count_leading(text, false);
-        self.rest = &text[n..];
-        &text[0..n]
+        let text = &self.rest[count_blanks(self.rest)..];
+        let (word, rest) = text.split_at(word_length(text));
+        self.rest = rest;
+        if word.is_empty() { None } else { Some(word) }
     }
 
-    // The next word as a byte in hex.
-    pub fn next_u8(&mut self) -> Option<u8>
-        ensures value { result ≡ number_read (first_word self.old.rest.now) 1 }
+    // The next word as a value in hex.
+    pub fn next_field<F: Field>(&mut self) -> Option<F>
+        ensures value { result ≡ value_read F.width F.value (first_word self.old.rest.now) }
         ensures rest { self.new.rest.now ≡ behind_word self.old.rest.now }
     {
-        read_u8(self.next_word())
-    }
-
-    // The next word as a number of 32 bits in hex.
-    pub fn next_u32(&mut self) -> Option<u32>
-        ensures value { result ≡ number_read (first_word self.old.rest.now) 4 }
-        ensures rest { self.new.rest.now ≡ behind_word self.old.rest.now }
-    {
-        read_u32(self.next_word())
-    }
-
-    // The next word as a number of 64 bits in hex.
-    pub fn next_u64(&mut self) -> Option<u64>
-        ensures value { result ≡ number_read (first_word self.old.rest.now) 8 }
-        ensures rest { self.new.rest.now ≡ behind_word self.old.rest.now }
-    {
-        read_u64(self.next_word())
+        F::read(self.next_word()?)
     }
 
     // The next word as a number of 32 bits in 1 to 8 hex digits.
@@ -79,22 +83,6 @@ impl<'a> Words<'a> {
         ensures value { result ≡ short_number_read (first_word self.old.rest.now) }
         ensures rest { self.new.rest.now ≡ behind_word self.old.rest.now }
     {
-        read_number(self.next_word())
-    }
-
-    // The next word as AUTH_DATA in hex.
-    pub fn next_auth_data(&mut self) -> Option<AuthData>
-        ensures value { result ≡ auth_data_read (first_word self.old.rest.now) }
-        ensures rest { self.new.rest.now ≡ behind_word self.old.rest.now }
-    {
-        read_auth_data(self.next_word())
-    }
-
-    // The next word as RANDSSD in hex.
-    pub fn next_rand_ssd(&mut self) -> Option<RandSsd>
-        ensures value { result ≡ rand_ssd_read (first_word self.old.rest.now) }
-        ensures rest { self.new.rest.now ≡ behind_word self.old.rest.now }
-    {
-        read_rand_ssd(self.next_word())
+        read_number(self.next_word()?)
     }
 }

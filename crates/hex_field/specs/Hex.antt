@@ -1,6 +1,6 @@
 -- Upper-case hex digits, and the bytes that pairs of them write.
-use Rattle.std.specs.Prelude.{ℕ, ◌+◌, ◌-◌, ◌*◌, Bool, true, cond, ◌&&◌, ◌||◌, List, [], ◌∷◌, map, length, ◌==◌, nat_le, slice_index}
-use Rattle.std.specs.List.{range_with_len}
+use Rattle.std.specs.Prelude.{ℕ, ◌+◌, ◌-◌, ◌*◌, Bool, if◌then◌else◌, ◌&&◌, ◌||◌, List, map, length, Some, None, Option, ◌==◌, nat_le, slice_index}
+use Rattle.std.specs.List.{list_all, range_with_len}
 use Rattle.std.specs.Char.{is_ascii_digit}
 
 -- 'A' to 'F'
@@ -13,12 +13,11 @@ is_hex b = is_ascii_digit b || is_letter b
 
 -- the value of an upper-case hex digit, 0 for any other byte
 abbrev pub hex_value : ℕ → ℕ
-hex_value b = cond (is_ascii_digit b) (b - 0x30) (cond (is_letter b) (b - 0x41 + 10) 0)
+hex_value b = if is_ascii_digit b then b - 0x30 else (if is_letter b then b - 0x41 + 10 else 0)
 
 -- every byte is a hex digit
-unfoldable pub all_hex : List ℕ → Bool
-all_hex [] = true
-all_hex (b ∷ bs) = is_hex b && all_hex bs
+abbrev pub all_hex : List ℕ → Bool
+all_hex bs = list_all is_hex bs
 
 -- a field of n bytes: two hex digits for each, and nothing else
 unfoldable pub is_field : List ℕ → ℕ → Bool
@@ -31,3 +30,7 @@ field_byte bs k = hex_value (slice_index bs (2 * k)) * 16 + hex_value (slice_ind
 -- the n bytes of a field
 unfoldable pub field_bytes : List ℕ → ℕ → List ℕ
 field_bytes bs n = map (field_byte bs) (range_with_len 0 n)
+
+-- a text read as a field of n bytes
+abbrev pub field_read : List ℕ → ℕ → Option (List ℕ)
+field_read bs n = if is_field bs n then Some (field_bytes bs n) else None

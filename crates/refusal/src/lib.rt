@@ -3,8 +3,10 @@
 #![tactic(auto)]
 
 ghost use Rattle.std.specs.Prelude.{◌≡◌};
-ghost use Rattle.refusal.specs.Refusals.{number_of, told_of, values};
+ghost use Rattle.refusal.specs.Refusals.{number_of, told_of};
 
+use arrayvec::ArrayVec;
+use std::error::Error;
 use std::fmt;
 
 #[derive(Clone, Copy, PartialEq, Eq, Debug)]
@@ -17,14 +19,6 @@ pub enum Refusal {
     CheckDiffers,
     // ciphering: a message of a length that the cipher does not take, with how many layers lie above the one that saw it
     WrongLength { length: usize, layers: u32 },
-}
-
-// The values told with a refusal.
-#[derive(Clone, Copy)]
-pub enum Told {
-    Nothing,
-    One(u64),
-    Two(u64, u64),
 }
 
 impl Refusal {
@@ -40,27 +34,33 @@ impl Refusal {
         }
     }
 
-    // What is told with it.
-    pub fn told(&self) -> Told
-        ensures { values result ≡ told_of self.now }
+    // The values told with it.
+    pub fn told(&self) -> ArrayVec<u64, 2>
+        ensures { result.items ≡ told_of self.now }
     {
+        let mut told = ArrayVec::new();
         match *self {
-            Refusal::NotADigit { index } => Told::One(index as u64),
-            Refusal::WrongCount { count } => Told::One(count as u64),
-            Refusal::CheckDiffers => Told::Nothing,
-            Refusal::WrongLength { length, layers } => Told::Two(length as u64, layers as u64),
+            Refusal::NotADigit { index } => told.push(index as u64),
+            Refusal::WrongCount { count } => told.push(count as u64),
+            Refusal::CheckDiffers => {}
+            Refusal::WrongLength { length, layers } => {
+                told.push(length as u64);
+                told.push(layers as u64);
+            }
         }
+        told
     }
 }
 
 // `refused`, the number, and the told values in decimal.
 impl fmt::Display for Refusal {
     fn fmt<W: fmt::Write>(&self, f: &mut fmt::Formatter<W>) -> fmt::Result {
-        let number = self.number();
-        match self.told() {
-            Told::Nothing => write!(f, "refused {number}"),
-            Told::One(value) => write!(f, "refused {number} {value}"),
-            Told::Two(first, second) => write!(f, "refused {number} {first} {second}"),
+        write!(f, "refused {}", self.number())?;
+        for value in &self.told() {
+            write!(f, " {value}")?;
         }
+        Ok(())
     }
 }
+
+impl Error for Refusal {}

@@ -33,6 +33,6 @@ pub returns : goal.returns
 unfolding table tbox first_pass second_pass third_pass image
 returns c =
     record {
-      passes = simp (c.keys_agree.ensures, c.cycles_agree.ensures, c.steps_agree.ensures, c.become_these.ensures, c.become_these-2.ensures);
+      passes = simp (c.keys_agree.ensures, c.cycles_agree.ensures, c.steps_agree.ensures, c.become_these.ensures.1 refl, c.become_these-2.ensures.1 refl);
       examples = worked;
     }

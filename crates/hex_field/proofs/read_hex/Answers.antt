@@ -1,7 +1,7 @@
-use Rattle.std.proofs.Common.{◌≡◌, ◌+◌, ◌*◌, ◌<◌, true, false, length, sym, ◌∙◌, arith}
+use Rattle.std.proofs.Common.{◌≡◌, ◌+◌, ◌*◌, ◌<◌, true, false, length, sym, refl, ◌∙◌, arith}
 use Rattle.std.proofs.lemmas.List.FromFn.{fill_by_all}
 use Rattle.std.proofs.lemmas.List.Edits.{fill_by_more}
-use Rattle.std.proofs.lemmas.Bool.{cond-true, cond-false, and_from, and_left, and_right, eq-eqb, ne_eqb}
+use Rattle.std.proofs.lemmas.Bool.{cond-true, cond-false, and_from, and_left, and_right, eq-eqb, ne_eqb, false≢true}
 use Rattle.hex_field.specs.Hex.{is_field, field_byte, field_bytes}
 use Rattle.hex_field.proofs.read_hex.Goals as goal
 use Rattle.hex_field.proofs.read_hex.Goals.{then-text-out-via-then-text-out, then-text-out-via-else-text-out+then-not-all_hex}
@@ -15,7 +15,7 @@ no_field c =
     ]
 
 pub returns-then-text-out : goal.returns-then-text-out
-returns-then-text-out c = record { answer = sym (no_field c); after = sym (cond-false _ _ _ (no_field c)) }
+returns-then-text-out c = record { answer = (λ p. absurd (false≢true p), λ t. absurd (false≢true (sym (no_field c) ∙ t))); after = sym (cond-false _ _ _ (no_field c)) }
 
 pub loop-k-preserved : goal.loop-k-preserved
 unfolding field_byte
@@ -34,4 +34,4 @@ pub returns : goal.returns
 unfolding field_bytes
 returns c =
     let filled = fill_by_all (field_byte c.args.text.now) c.loop-k.out (length c.args.out.now) 0 c.loop-k.auto.out (λ j h. c.loop-k.invariant j (omega arith)) in
-    record { answer = sym (field c); after = filled ∙ sym (cond-true _ _ _ (field c)) }
+    record { answer = (λ p. field c, λ t. refl); after = filled ∙ sym (cond-true _ _ _ (field c)) }

@@ -13,11 +13,11 @@ use cave::state::{CaveState, Rounds};
 fn open_state(of: OpeningRecord) -> CaveState
     ensures { result ≡ after_rounds 8 (opening_loading of) }
 {
-    let lfsr = or_if_zero(blend(of.lfsr, of.ssd_b), of.rand);
+    let lfsr = or_if_zero(blend(of.left.lfsr, of.ssd_b), of.rand);
     let fresh = load_state(lfsr, of.ssd_b, of.auth_data.0, of.esn);
     let start = CaveState {
-        offset1: of.offset1,
-        offset2: of.offset2,
+        offset1: of.left.offset1,
+        offset2: of.left.offset2,
         ..fresh
     };
     cave(start, Rounds::Eight)

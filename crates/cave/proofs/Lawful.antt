@@ -4,8 +4,10 @@ use lib.Bits.{bit_or, bit_xor}
 use Rattle.std.proofs.lemmas.List.{length-set, get_or-set_same, get_or-set_other}
 use Rattle.std.proofs.lemmas.Bool.{eq-eqb, ne_eqb, cond-true, cond-false, cases_eq}
 use Rattle.cave.specs.Law.{Treats, Mixing, Round, Run}
-use Rattle.cave.specs.Mix.{Tried, tried, low_side, high_side, turns, right_of, mixed_at, mixed}
+use Rattle.cave.specs.Mix.{tried, turns, right_of, mixed_at, mixed}
 use Rattle.cave.specs.Rounds.{round, after_rounds, rotated}
+use Rattle.cave.specs.declared.side.Side.TheVariants.{Low, High}
+use Rattle.cave.specs.declared.side.Tried.{Tried}
 use Rattle.cave.specs.declared.state.CaveState.{CaveState}
 use Rattle.cave.proofs.Halves.{search_law, turns_more}
 use Rattle.cave.proofs.Permutes.{rows_permute, shuffle_moves, length_shuffled, shuffled_below}
@@ -53,14 +55,14 @@ module _ (start : CaveState) (sixteen : length start.registers ≡ 16) where
   unfolding mixed_at
   treats_next i h =
       let r : ℕ = get_or (at i).registers i 0 in
-      let low : Tried = tried low_side 32 r 0 (at i).lfsr (at i).offset1 in
-      let high : Tried = tried high_side 32 r 0 low.lfsr (at i).offset2 in
+      let low : Tried = tried Low 32 r 0 (at i).lfsr (at i).offset1 in
+      let high : Tried = tried High 32 r 0 low.lfsr (at i).offset2 in
       let b : i < length (at i).registers = omega (arith, length_at i) in
       record {
         low = low;
         high = high;
-        low_search = search_law low_side r (at i).lfsr (at i).offset1;
-        high_search = search_law high_side r low.lfsr (at i).offset2;
+        low_search = search_law Low r (at i).lfsr (at i).offset1;
+        high_search = search_law High r low.lfsr (at i).offset2;
         written = get_or-set_same _ _ _ _ b ∙ ap (λ (x : ℕ). bit_xor x (bit_or low.half high.half)) (neighbour i h);
         others = λ j d. get_or-set_other (at i).registers i j _ 0 d;
         lfsr = refl;

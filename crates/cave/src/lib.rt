@@ -80,9 +80,9 @@ fn shuffle(k: u8, registers: [u8; 16]) -> [u8; 16]
     ensures { result ≡ shuffled k registers }
 {
     let mut out = [0; 16];
-    for i in 0..16u8 {
-        let to = (entry(16 * k + i) & 0x0f) as usize;
-        out[to] = registers[i as usize];
+    for (i, register) in registers.iter().enumerate() {
+        let to = entry(16 * k + i as u8) & 0x0f;
+        out[to as usize] = *register;
     }
     out
 }

@@ -71,12 +71,12 @@ fn mask_bytes(of: OpeningRecord, two: CaveState) -> [u8; 65]
 {
     let mut m = two;
     let mut out = [0; 65];
-    for k in 0..65 {
+    for (k, byte) in out.iter_mut().enumerate() {
         let at = k % 6;
         if at == 0 {
             m = iterate(of.rand, m);
         }
-        out[k] = m.registers[at + 2] ^ m.registers[at + 8];
+        *byte = m.registers[at + 2] ^ m.registers[at + 8];
     }
     out
 }

@@ -4,7 +4,7 @@ ghost use Rattle.std.specs.Prelude.{◌≡◌};
 ghost use Rattle.cave.specs.Rounds.{after_rounds};
 ghost use Rattle.auth.specs.Keys.{opening_loading, rolled, iteration, cmea_key_of, voice_mask_of, call_keys_of, KeysBy, MasksBy};
 
-use crate::load::{blend, join_4, load_state, or_if_zero};
+use crate::load::{blend, load_state, or_if_zero};
 use crate::types::{CallKeys, OpeningRecord};
 use cave::cave;
 use cave::state::{CaveState, Rounds};
@@ -24,11 +24,12 @@ fn open_state(of: OpeningRecord) -> CaveState
 }
 
 // The roll-over: the LFSR becomes R0, R1, R14 and R15, or RAND where they are zero.
+#[tactic(auto, unfolding(cave::specs::Bytes::wide))]
 fn roll(rand: u32, m: CaveState) -> CaveState
     ensures { result ≡ rolled rand m }
 {
     let r = m.registers;
-    let lfsr = join_4([r[0], r[1], r[14], r[15]]);
+    let lfsr = u32::from_be_bytes([r[0], r[1], r[14], r[15]]);
     CaveState {
         lfsr: or_if_zero(lfsr, rand),
         ..m

@@ -12,14 +12,12 @@ const AAV: u8 = 0xc7;
 pub(crate) fn load_state(lfsr: u32, secret: u64, three: [u8; 3], esn: u32) -> CaveState
     ensures { result ≡ loading lfsr secret three esn }
 {
-    let s = secret.to_be_bytes();
-    let d = three;
-    let e = esn.to_be_bytes();
+    let mut registers = [AAV; 16];
+    registers[..8].copy_from_slice(&secret.to_be_bytes());
+    registers[9..12].copy_from_slice(&three);
+    registers[12..].copy_from_slice(&esn.to_be_bytes());
     CaveState {
-        registers: [
-            s[0], s[1], s[2], s[3], s[4], s[5], s[6], s[7], AAV, d[0], d[1], d[2], e[0], e[1],
-            e[2], e[3],
-        ],
+        registers,
         lfsr,
         offset1: 128,
         offset2: 128,

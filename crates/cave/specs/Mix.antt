@@ -1,5 +1,5 @@
 -- The mixing of the sixteen registers, which begins each round.
-use Rattle.std.specs.Prelude.{ℕ, zero, suc, ◌+◌, ◌%◌, ◌^◌, cond, List, ◌==◌, bit_and, bit_or, bit_xor, slice_index, slice_index_or, slice_set}
+use Rattle.std.specs.Prelude.{ℕ, zero, suc, ◌+◌, ◌%◌, ◌^◌, if◌then◌else◌, List, ◌==◌, bit_and, bit_or, bit_xor, slice_index, slice_index_or, slice_set}
 use Rattle.cave.specs.Lfsr.{cycled, d_raised}
 use Rattle.cave.specs.Table.{table}
 use Rattle.cave.specs.Sides.{stage_of, mask_of}
@@ -21,9 +21,9 @@ half_at s o = bit_and (slice_index table o) (mask_of s)
 unfoldable pub tried : Side → ℕ → ℕ → ℕ → ℕ → ℕ → Tried
 tried s zero r h w o = record { lfsr = d_raised w; offset = o; half = h }
 tried s (suc n) r h w o =
-    cond (half_at s (moved s r w o) == bit_and r (mask_of s))
-    (tried s n r (half_at s (moved s r w o)) (cycled w) (moved s r w o))
-    (record { lfsr = w; offset = moved s r w o; half = half_at s (moved s r w o) })
+    let at = moved s r w o in
+    let half = half_at s at in
+    if half == bit_and r (mask_of s) then tried s n r half (cycled w) at else record { lfsr = w; offset = at; half = half }
 
 -- f at 0, then at 1, and so on, n times
 unfoldable pub turns : {S : Type 0} → (ℕ → S → S) → ℕ → S → S
@@ -32,7 +32,7 @@ turns f (suc n) s = f n (turns f n s)
 
 -- the register to the right of register i, where `saved` is R0 as the round began
 abbrev pub right_of : ℕ → ℕ → List ℕ → ℕ
-right_of saved i xs = cond (i == 15) saved (slice_index xs (i + 1))
+right_of saved i xs = if i == 15 then saved else slice_index xs (i + 1)
 
 -- register i mixed
 unfoldable pub mixed_at : ℕ → ℕ → CaveState → CaveState

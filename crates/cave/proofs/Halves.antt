@@ -1,7 +1,7 @@
 -- The search for a half byte one try at a time, as the loop of tries goes, and its law.
-use Rattle.std.proofs.Common.{◌≡◌, ℕ, zero, suc, ◌+◌, ◌-◌, ◌<◌, ◌⊎◌, refl, ap, inl, inr, ⊎_elim, le_of_suc-le-suc, not-suc-le-zero, add-one, sub-one, arith}
+use Rattle.std.proofs.Common.{◌≡◌, ℕ, zero, suc, ◌+◌, ◌-◌, ◌<◌, ◌⊎◌, refl, inl, inr, ⊎_elim, le_of_suc-le-suc, add-one, sub-one, arith}
 use lib.Bits.{bit_and}
-use Rattle.std.proofs.lemmas.Bool.{eq-eqb, ne_eqb, cond-true, cond-false, cases_eq}
+use Rattle.std.proofs.lemmas.Bool.{eq-eqb, ne_eqb, cases_eq}
 use Rattle.cave.specs.Lfsr.{cycled, d_raised}
 use Rattle.cave.specs.Sides.{mask_of}
 use Rattle.cave.specs.Mix.{tried, half_at, moved, turns}
@@ -12,18 +12,18 @@ use Rattle.cave.specs.declared.side.Tried.{Tried}
 module _ (s : Side) (r h w o : ℕ) where
   pub tried_differs : (n : ℕ) → 0 < n → (half_at s (moved s r w o) ≡ bit_and r (mask_of s) → ⊥) → tried s n r h w o ≡ record { lfsr = w; offset = moved s r w o; half = half_at s (moved s r w o) }
   unfolding tried
-  tried_differs zero p d = absurd (not-suc-le-zero p)
-  tried_differs (suc n) p d = cond-false _ _ _ (ne_eqb _ _ d)
+  tried_differs zero p d = absurd (omega arith)
+  tried_differs (suc n) p d = rw (ne_eqb _ _ d) refl
 
   pub tried_again : (n : ℕ) → 0 < n → half_at s (moved s r w o) ≡ bit_and r (mask_of s) → tried s n r h w o ≡ tried s (n - 1) r (half_at s (moved s r w o)) (cycled w) (moved s r w o)
   unfolding tried
-  tried_again zero p e = absurd (not-suc-le-zero p)
-  tried_again (suc n) p e = rw sub-one (cond-true _ _ _ (eq-eqb _ _ e))
+  tried_again zero p e = absurd (omega arith)
+  tried_again (suc n) p e = rw (sub-one, eq-eqb _ _ e) refl
 
   -- with a try left, the half of the last one does not matter
   pub tried_any : (n : ℕ) → 0 < n → tried s n r h w o ≡ tried s n r 0 w o
   unfolding tried
-  tried_any zero p = absurd (not-suc-le-zero p)
+  tried_any zero p = absurd (omega arith)
   tried_any (suc n) p = refl
 
   pub tried_none : (n : ℕ) → n ≡ 0 → tried s n r h w o ≡ record { lfsr = d_raised w; offset = o; half = h }
@@ -49,14 +49,11 @@ module _ (s : Side) (r : ℕ) where
 
   searched : (n w o h : ℕ) → h ≡ bit_and r (mask_of s) → FirstDiffering s n r w o (tried s n r h w o) ⊎ Forced s n r w o (tried s n r h w o)
   unfolding tried offset_after cycles
-  searched zero w o h e = inr (record { all = λ j l. absurd (not-suc-le-zero l); gives = ap (λ (x : ℕ). record { lfsr = d_raised w; offset = o; half = x }) e })
+  searched zero w o h e = inr (record { all = λ j l. absurd (omega arith); gives = rw e refl })
   searched (suc n) w o h e =
       ⊎_elim
-      (λ (q : half_at s (moved s r w o) ≡ bit_and r (mask_of s)).
-      rw (cond-true _ (tried s n r (half_at s (moved s r w o)) (cycled w) (moved s r w o)) (record { lfsr = w; offset = moved s r w o; half = half_at s (moved s r w o) }) (eq-eqb _ _ q))
-      (later w o n _ q (searched n (cycled w) (moved s r w o) (half_at s (moved s r w o)) q)))
-      (λ (d : half_at s (moved s r w o) ≡ bit_and r (mask_of s) → ⊥).
-      inl (record { at = 0; within = omega arith; before = λ j l. absurd (not-suc-le-zero l); differs = d; gives = cond-false _ _ _ (ne_eqb _ _ d) }))
+      (λ (q : half_at s (moved s r w o) ≡ bit_and r (mask_of s)). rw (eq-eqb _ _ q) (later w o n _ q (searched n _ _ _ q)))
+      (λ (d : half_at s (moved s r w o) ≡ bit_and r (mask_of s) → ⊥). rw (ne_eqb _ _ d) (inl (record { at = 0; within = omega arith; before = λ j l. absurd (omega arith); differs = d; gives = refl })))
       (cases_eq (half_at s (moved s r w o)) (bit_and r (mask_of s)))
 
   pub search_law : (w o : ℕ) → Search s r w o (tried s 32 r 0 w o)

@@ -17,7 +17,7 @@ module _ (o : OpeningRecord) where
   rolled_sixteen zero = registers_sixteen 8 (opening_loading o) (omega arith)
   rolled_sixteen (suc n) = registers_sixteen 4 (rolled o.rand (iteration o n)) (omega arith)
 
-  next : (n : ℕ) → iteration o (n + 1) ≡ after_rounds 4 (rolled o.rand (iteration o n))
+  pub next : (n : ℕ) → iteration o (n + 1) ≡ after_rounds 4 (rolled o.rand (iteration o n))
   unfolding iteration
   next n = rw add-one refl
 

@@ -14,8 +14,8 @@ use Rattle.auth.specs.declared.types.CallKeys.{CallKeys}
 -- and with the offsets that it left
 abbrev pub opening_loading : OpeningRecord → CaveState
 opening_loading o =
-    let m = loading (if_zero (blended o.lfsr o.ssd_b) o.rand) o.ssd_b o.auth_data.0 o.esn in
-    record { registers = m.registers; lfsr = m.lfsr; offset1 = o.offset1; offset2 = o.offset2 }
+    let m = loading (if_zero (blended o.left.lfsr o.ssd_b) o.rand) o.ssd_b o.auth_data.0 o.esn in
+    record { registers = m.registers; lfsr = m.lfsr; offset1 = o.left.offset1; offset2 = o.left.offset2 }
 
 -- the roll-over: the LFSR becomes R0, R1, R14 and R15, or RAND where they are zero
 abbrev pub rolled : ℕ → CaveState → CaveState

@@ -25,4 +25,4 @@ ssd_of m = record { a = wide 8 (part m.registers 0 8); b = wide 8 (part m.regist
 
 -- a signature with what its run leaves
 abbrev pub signed_of : CaveState → Signed
-signed_of m = record { signature = eighteen m; lfsr = m.lfsr; offset1 = m.offset1; offset2 = m.offset2 }
+signed_of m = record { signature = eighteen m; left = record { lfsr = m.lfsr; offset1 = m.offset1; offset2 = m.offset2 } }

@@ -4,7 +4,7 @@ ghost use Rattle.std.specs.Prelude.{◌≡◌};
 ghost use Rattle.cave.specs.Rounds.{after_rounds};
 ghost use Rattle.auth.specs.Keys.{opening_loading, rolled, iteration, cmea_key_of, voice_mask_of, call_keys_of, KeysBy, MasksBy};
 
-use crate::load::{blend, join_4, load_state, or_if_zero};
+use crate::load::{blend, load_state, or_if_zero};
 use crate::types::{CallKeys, OpeningRecord};
 use cave::cave;
 use cave::state::{CaveState, Rounds};
@@ -13,22 +13,23 @@ use cave::state::{CaveState, Rounds};
 fn open_state(of: OpeningRecord) -> CaveState
     ensures { result ≡ after_rounds 8 (opening_loading of) }
 {
-    let lfsr = or_if_zero(blend(of.lfsr, of.ssd_b), of.rand);
+    let lfsr = or_if_zero(blend(of.left.lfsr, of.ssd_b), of.rand);
     let fresh = load_state(lfsr, of.ssd_b, of.auth_data.0, of.esn);
     let start = CaveState {
-        offset1: of.offset1,
-        offset2: of.offset2,
+        offset1: of.left.offset1,
+        offset2: of.left.offset2,
         ..fresh
     };
     cave(start, Rounds::Eight)
 }
 
 // The roll-over: the LFSR becomes R0, R1, R14 and R15, or RAND where they are zero.
+#[tactic(auto, unfolding(cave::specs::Bytes::wide))]
 fn roll(rand: u32, m: CaveState) -> CaveState
     ensures { result ≡ rolled rand m }
 {
     let r = m.registers;
-    let lfsr = join_4([r[0], r[1], r[14], r[15]]);
+    let lfsr = u32::from_be_bytes([r[0], r[1], r[14], r[15]]);
     CaveState {
         lfsr: or_if_zero(lfsr, rand),
         ..m
@@ -71,12 +72,12 @@ fn mask_bytes(of: OpeningRecord, two: CaveState) -> [u8; 65]
 {
     let mut m = two;
     let mut out = [0; 65];
-    for k in 0..65 {
+    for (k, byte) in out.iter_mut().enumerate() {
         let at = k % 6;
         if at == 0 {
             m = iterate(of.rand, m);
         }
-        out[k] = m.registers[at + 2] ^ m.registers[at + 8];
+        *byte = m.registers[at + 2] ^ m.registers[at + 8];
     }
     out
 }

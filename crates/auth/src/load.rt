@@ -1,6 +1,5 @@
 // What the loadings of CAVE have in common.
-ghost use Rattle.std.specs.Prelude.{◌≡◌};
-ghost use Rattle.cave.specs.Bytes.{wide};
+ghost use Rattle.std.specs.Prelude.{◌≡◌, ◌/◌, ◌%◌, ◌^◌};
 ghost use Rattle.auth.specs.Loading.{loading, if_zero, blended};
 
 use cave::state::CaveState;
@@ -9,17 +8,16 @@ use cave::state::CaveState;
 const AAV: u8 = 0xc7;
 
 // R0 to R7 are a secret, R8 is AAV, R9 to R11 are three bytes of data and R12 to R15 the ESN; both offsets are 128.
+#[tactic(auto, unfolding(crate::specs::Loading::loading))]
 pub(crate) fn load_state(lfsr: u32, secret: u64, three: [u8; 3], esn: u32) -> CaveState
     ensures { result ≡ loading lfsr secret three esn }
 {
-    let s = secret.to_be_bytes();
-    let d = three;
-    let e = esn.to_be_bytes();
+    let mut registers = [AAV; 16];
+    registers[..8].copy_from_slice(&secret.to_be_bytes());
+    registers[9..12].copy_from_slice(&three);
+    registers[12..].copy_from_slice(&esn.to_be_bytes());
     CaveState {
-        registers: [
-            s[0], s[1], s[2], s[3], s[4], s[5], s[6], s[7], AAV, d[0], d[1], d[2], e[0], e[1],
-            e[2], e[3],
-        ],
+        registers,
         lfsr,
         offset1: 128,
         offset2: 128,
@@ -33,22 +31,18 @@ pub(crate) fn or_if_zero(x: u32, other: u32) -> u32
     if x == 0 { other } else { x }
 }
 
+// The upper and the lower 32 bits.
+pub(crate) fn halves(x: u64) -> (u32, u32)
+    ensures upper { result.0 ≡ x / 2 ^ 32 }
+    ensures lower { result.1 ≡ x % 2 ^ 32 }
+{
+    ((x >> 32) as u32, (x % 0x1_0000_0000) as u32)
+}
+
 // x XOR both halves of a secret.
 pub(crate) fn blend(x: u32, secret: u64) -> u32
     ensures { result ≡ blended x secret }
 {
-    x ^ (secret >> 32) as u32 ^ (secret % 0x1_0000_0000) as u32
-}
-
-// Four bytes as one number, and eight.
-pub(crate) fn join_4(bytes: [u8; 4]) -> u32
-    ensures { result ≡ wide 4 bytes }
-{
-    u32::from_be_bytes(bytes)
-}
-
-pub(crate) fn join_8(bytes: [u8; 8]) -> u64
-    ensures { result ≡ wide 8 bytes }
-{
-    u64::from_be_bytes(bytes)
+    let (upper, lower) = halves(secret);
+    x ^ upper ^ lower
 }

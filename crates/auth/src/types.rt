@@ -1,29 +1,29 @@
 // What the uses of CAVE take and give. Wide numbers stand most significant byte first.
 
 // AUTH_DATA: 24 bits of the message that a signature is for.
-#[derive(Clone, Copy)]
+#[derive(Clone, Copy, PartialEq, Eq, Debug)]
 pub struct AuthData(pub [u8; 3]);
 
 // RANDSSD: the 56 random bits of an SSD renewal.
-#[derive(Clone, Copy)]
+#[derive(Clone, Copy, PartialEq, Eq, Debug)]
 pub struct RandSsd(pub [u8; 7]);
 
 // Shared secret data: SSD_A signs, SSD_B keys the ciphers.
-#[derive(Clone, Copy)]
+#[derive(Clone, Copy, PartialEq, Eq, Debug)]
 pub struct Ssd {
     pub a: u64,
     pub b: u64,
 }
 
 // The A-key of a terminal, with the serial number (ESN) of the terminal; the check is made of both.
-#[derive(Clone, Copy)]
+#[derive(Clone, Copy, PartialEq, Eq, Debug)]
 pub struct TerminalKey {
     pub esn: u32,
     pub key: u64,
 }
 
 // What new SSD is made of.
-#[derive(Clone, Copy)]
+#[derive(Clone, Copy, PartialEq, Eq, Debug)]
 pub struct Renewal {
     pub esn: u32,
     pub key: u64,
@@ -31,7 +31,7 @@ pub struct Renewal {
 }
 
 // What a signature is made of: a 64-bit secret (SSD_A, old or new), a random challenge, and AUTH_DATA.
-#[derive(Clone, Copy)]
+#[derive(Clone, Copy, PartialEq, Eq, Debug)]
 pub struct Challenge {
     pub esn: u32,
     pub secret: u64,
@@ -39,30 +39,34 @@ pub struct Challenge {
     pub auth_data: AuthData,
 }
 
-// A signature of 18 bits, with the LFSR and the offsets that its run leaves.
-#[derive(Clone, Copy)]
-pub struct Signed {
-    pub signature: u32,
+// What a run of CAVE leaves for the next one: the LFSR and both offsets.
+#[derive(Clone, Copy, PartialEq, Eq, Debug)]
+pub struct RunEnd {
     pub lfsr: u32,
     pub offset1: u8,
     pub offset2: u8,
 }
 
-// What the opening of a call leaves for its ciphers: SSD_B, the ESN, the call's RAND and AUTH_DATA, and the LFSR and the offsets
-// that the opening signature left.
-#[derive(Clone, Copy)]
+// A signature of 18 bits, with what its run leaves.
+#[derive(Clone, Copy, PartialEq, Eq, Debug)]
+pub struct Signed {
+    pub signature: u32,
+    pub left: RunEnd,
+}
+
+// What the opening of a call leaves for its ciphers: SSD_B, the ESN, the call's RAND and AUTH_DATA, and what the opening
+// signature left.
+#[derive(Clone, Copy, PartialEq, Eq, Debug)]
 pub struct OpeningRecord {
     pub ssd_b: u64,
     pub esn: u32,
     pub rand: u32,
     pub auth_data: AuthData,
-    pub lfsr: u32,
-    pub offset1: u8,
-    pub offset2: u8,
+    pub left: RunEnd,
 }
 
 // The CMEA key and the voice privacy mask of a call.
-#[derive(Clone, Copy)]
+#[derive(Clone, Copy, PartialEq, Eq, Debug)]
 pub struct CallKeys {
     pub cmea_key: [u8; 8],
     pub voice_mask: [u8; 65],

@@ -1,32 +1,22 @@
 // The three uses of CAVE that run eight rounds and read one answer off.
-ghost use Rattle.std.specs.Prelude.{◌≡◌, bit_xor};
+ghost use Rattle.std.specs.Prelude.{◌≡◌};
 ghost use Rattle.cave.specs.Law.{AnswersBy};
 ghost use Rattle.cave.specs.Rounds.{after_rounds};
 ghost use Rattle.auth.specs.Loading.{akey_loading, ssd_loading, signature_loading};
 ghost use Rattle.auth.specs.Reading.{eighteen, ssd_of, signed_of, Reads18};
 ghost use Rattle.auth.specs.Uses.{akey_check_of, new_ssd_of, signature_of};
 
-use crate::load::{blend, join_4, join_8, load_state, or_if_zero};
-use crate::types::{Challenge, Renewal, Signed, Ssd, TerminalKey};
+use crate::load::{blend, halves, load_state, or_if_zero};
+use crate::types::{Challenge, Renewal, RunEnd, Signed, Ssd, TerminalKey};
 use cave::state::CaveState;
 use cave::uses::{CaveUse, run};
-
-// Register a XOR register b.
-fn cross(a: u8, b: u8) -> u8
-    ensures { result ≡ bit_xor a b }
-{
-    a ^ b
-}
 
 // The 18 bits that a check and a signature read off.
 fn read_18(last: CaveState) -> u32
     ensures { result ≡ eighteen last }
 {
     let r = last.registers;
-    let top = cross(r[0], r[13]) as u32;
-    let middle = cross(r[1], r[14]) as u32;
-    let low = cross(r[2], r[15]) as u32;
-    (top * 0x1_0000 + middle * 0x100 + low) % 0x4_0000
+    u32::from_be_bytes([0, r[0] ^ r[13], r[1] ^ r[14], r[2] ^ r[15]]) % 0x4_0000
 }
 
 pub struct AKeyCheck;
@@ -42,7 +32,7 @@ impl CaveUse for AKeyCheck {
 
     fn load(input: TerminalKey) -> CaveState {
         let k = input.key.to_be_bytes();
-        let upper = (input.key >> 32) as u32;
+        let (upper, _) = halves(input.key);
         load_state(
             or_if_zero(upper, input.esn),
             input.key,
@@ -67,18 +57,20 @@ impl CaveUse for SsdGeneration {
 
     ghost reading = { ssd_of };
 
+    #[tactic(auto, unfolding(cave::specs::Bytes::wide))]
     fn load(input: Renewal) -> CaveState {
         let r = input.rand_ssd.0;
-        let lower = join_4([r[3], r[4], r[5], r[6]]);
+        let lower = u32::from_be_bytes([r[3], r[4], r[5], r[6]]);
         let lfsr = or_if_zero(blend(lower, input.key), lower);
         load_state(lfsr, input.key, [r[0], r[1], r[2]], input.esn)
     }
 
+    #[tactic(auto, unfolding(cave::specs::Bytes::wide))]
     fn read(last: CaveState) -> Ssd {
         let r = last.registers;
         Ssd {
-            a: join_8([r[0], r[1], r[2], r[3], r[4], r[5], r[6], r[7]]),
-            b: join_8([r[8], r[9], r[10], r[11], r[12], r[13], r[14], r[15]]),
+            a: u64::from_be_bytes([r[0], r[1], r[2], r[3], r[4], r[5], r[6], r[7]]),
+            b: u64::from_be_bytes([r[8], r[9], r[10], r[11], r[12], r[13], r[14], r[15]]),
         }
     }
 }
@@ -102,9 +94,11 @@ impl CaveUse for AuthSignature {
     fn read(last: CaveState) -> Signed {
         Signed {
             signature: read_18(last),
-            lfsr: last.lfsr,
-            offset1: last.offset1,
-            offset2: last.offset2,
+            left: RunEnd {
+                lfsr: last.lfsr,
+                offset1: last.offset1,
+                offset2: last.offset2,
+            },
         }
     }
 }

@@ -2,9 +2,10 @@
 use Rattle.std.specs.Prelude.{◌≡◌, ℕ, zero, suc, ◌+◌, ◌%◌, ◌<◌, length, ◌≢◌, bit_or, bit_xor, slice_index, slice_index_or}
 use Rattle.cave.specs.Lfsr.{cycled}
 use Rattle.cave.specs.Table.{place}
-use Rattle.cave.specs.Mix.{Tried, low_side, high_side}
 use Rattle.cave.specs.Rounds.{rotated}
 use Rattle.cave.specs.Tries.{Search}
+use Rattle.cave.specs.declared.side.Side.TheVariants.{Low, High}
+use Rattle.cave.specs.declared.side.Tried.{Tried}
 use Rattle.cave.specs.declared.state.CaveState.{CaveState}
 
 -- register i treated, in a round that began at `start`: it becomes the register that stood to its right then (for R15, R0)
@@ -12,8 +13,8 @@ use Rattle.cave.specs.declared.state.CaveState.{CaveState}
 pub record Treats (start : CaveState) (i : ℕ) (m n : CaveState) : Type 0 where
   pub low : Tried
   pub high : Tried
-  pub low_search : Search low_side (slice_index m.registers i) m.lfsr m.offset1 low
-  pub high_search : Search high_side (slice_index m.registers i) low.lfsr m.offset2 high
+  pub low_search : Search Low (slice_index m.registers i) m.lfsr m.offset1 low
+  pub high_search : Search High (slice_index m.registers i) low.lfsr m.offset2 high
   pub written : slice_index_or n.registers i 0 ≡ bit_xor (slice_index start.registers ((i + 1) % 16)) (bit_or low.half high.half)
   pub others : (j : ℕ) → (j ≢ i) → slice_index n.registers j ≡ slice_index m.registers j
   pub lfsr : n.lfsr ≡ cycled high.lfsr

@@ -1,7 +1,10 @@
 -- The tries on one side in the standard's words: the first of at most 32 that differs, or else the forced one.
 use Rattle.std.specs.Prelude.{◌≡◌, ℕ, zero, suc, ◌<◌, ◌⊎◌, bit_and}
 use Rattle.cave.specs.Lfsr.{cycled, d_raised}
-use Rattle.cave.specs.Mix.{Side, Tried, half_at, moved}
+use Rattle.cave.specs.Sides.{mask_of}
+use Rattle.cave.specs.Mix.{half_at, moved}
+use Rattle.cave.specs.declared.side.Side.{Side}
+use Rattle.cave.specs.declared.side.Tried.{Tried}
 
 -- the LFSR after j cycles
 unfoldable pub cycles : ℕ → ℕ → ℕ
@@ -15,7 +18,7 @@ offset_after s r (suc j) w o = offset_after s r j (cycled w) (moved s r w o)
 
 -- try j, counted from 0, takes the register's own half
 abbrev pub Equal : Side → ℕ → ℕ → ℕ → ℕ → Type 0
-Equal s r w o j = half_at s (offset_after s r (suc j) w o) ≡ bit_and r s.mask
+Equal s r w o j = half_at s (offset_after s r (suc j) w o) ≡ bit_and r (mask_of s)
 
 -- one of n tries differs, every one before it is equal, and it is taken
 pub record FirstDiffering (s : Side) (n r w o : ℕ) (t : Tried) : Type 0 where
@@ -28,7 +31,7 @@ pub record FirstDiffering (s : Side) (n r w o : ℕ) (t : Tried) : Type 0 where
 -- all n tries are equal: the last is taken, after one more cycle and with 1 added to D
 pub record Forced (s : Side) (n r w o : ℕ) (t : Tried) : Type 0 where
   pub all : (j : ℕ) → j < n → Equal s r w o j
-  pub gives : t ≡ record { lfsr = d_raised (cycles n w); offset = offset_after s r n w o; half = bit_and r s.mask }
+  pub gives : t ≡ record { lfsr = d_raised (cycles n w); offset = offset_after s r n w o; half = bit_and r (mask_of s) }
 
 -- what at most 32 tries on the register value r leave
 abbrev pub Search : Side → ℕ → ℕ → ℕ → Tried → Type 0

@@ -5,16 +5,18 @@
 
 ghost use Rattle.std.specs.Prelude.{◌≡◌, ◌<◌, ◌≤◌};
 ghost use Rattle.cave.specs.Law.{Run};
-ghost use Rattle.cave.specs.Mix.{right_of, mixed};
+ghost use Rattle.cave.specs.Mix.{tried, right_of, mixed};
 ghost use Rattle.cave.specs.Rounds.{rotated, shuffled, round, after_rounds, how_many};
 ghost use Rattle.cave.specs.Table.{RowsPermute};
 
 pub mod lfsr;
+mod side;
 pub mod state;
 pub mod table;
 pub mod uses;
 
 use lfsr::{lfsr_cycle, raise_d};
+use side::{Side, Tried};
 use state::{CaveState, Rounds};
 use table::entry;
 
@@ -33,38 +35,34 @@ fn mix(start: CaveState) -> CaveState
 {
     let mut m = start;
     let saved = m.registers[0];
+    // By index: register i + 1 is read while register i is written.
     for i in 0..16 {
         let r = m.registers[i];
-        let mut left: u8 = 32;
-        let low = 'low: loop {
-            m.offset1 = m.offset1.wrapping_add(((m.lfsr >> 24) % 256) as u8 ^ r);
-            let half = entry(m.offset1) & 0x0f;
-            if half != r & 0x0f {
-                break half;
-            }
-            m.lfsr = lfsr_cycle(m.lfsr);
-            left -= 1;
-            if left == 0 {
-                m.lfsr = raise_d(m.lfsr);
-                break half;
-            }
+        let search = |side: Side, mut lfsr: u32, mut offset: u8|
+            ensures { result ≡ tried side 32 r 0 lfsr offset }
+        {
+            let mut left: u8 = 32;
+            let half = loop {
+                offset = offset.wrapping_add(side.stage(lfsr) ^ r);
+                let half = entry(offset) & side.mask();
+                if half != r & side.mask() {
+                    break half;
+                }
+                lfsr = lfsr_cycle(lfsr);
+                left -= 1;
+                if left == 0 {
+                    lfsr = raise_d(lfsr);
+                    break half;
+                }
+            };
+            Tried { lfsr, offset, half }
         };
-        let mut left: u8 = 32;
-        let high = 'high: loop {
-            m.offset2 = m.offset2.wrapping_add(((m.lfsr >> 16) % 256) as u8 ^ r);
-            let half = entry(m.offset2) & 0xf0;
-            if half != r & 0xf0 {
-                break half;
-            }
-            m.lfsr = lfsr_cycle(m.lfsr);
-            left -= 1;
-            if left == 0 {
-                m.lfsr = raise_d(m.lfsr);
-                break half;
-            }
-        };
-        m.registers[i] = neighbour(m.registers, i, saved) ^ (low | high);
-        m.lfsr = lfsr_cycle(m.lfsr);
+        let low = search(Side::Low, m.lfsr, m.offset1);
+        let high = search(Side::High, low.lfsr, m.offset2);
+        m.registers[i] = neighbour(m.registers, i, saved) ^ (low.half | high.half);
+        m.lfsr = lfsr_cycle(high.lfsr);
+        m.offset1 = low.offset;
+        m.offset2 = high.offset;
     }
     m
 }
@@ -82,9 +80,9 @@ fn shuffle(k: u8, registers: [u8; 16]) -> [u8; 16]
     ensures { result ≡ shuffled k registers }
 {
     let mut out = [0; 16];
-    for i in 0..16u8 {
-        let to = (entry(16 * k + i) & 0x0f) as usize;
-        out[to] = registers[i as usize];
+    for (i, register) in registers.iter().enumerate() {
+        let to = entry(16 * k + i as u8) & 0x0f;
+        out[to as usize] = *register;
     }
     out
 }

@@ -1,6 +1,6 @@
 // What CAVE works on: the mixing registers R0 to R15, the LFSR with its bytes A (the most significant), B, C and D,
 // and the two offsets into the table.
-#[derive(Clone, Copy)]
+#[derive(Clone, Copy, PartialEq, Eq, Debug)]
 pub struct CaveState {
     pub registers: [u8; 16],
     pub lfsr: u32,
@@ -9,7 +9,7 @@ pub struct CaveState {
 }
 
 // How many rounds a run has.
-#[derive(Clone, Copy)]
+#[derive(Clone, Copy, PartialEq, Eq, Debug)]
 pub enum Rounds {
     Four,
     Eight,

@@ -4,4 +4,4 @@ use Rattle.cave.specs.Rounds.{put}
 use Rattle.cave.proofs.shuffle.Given as goal
 
 abbrev pub invariant-loop-i : goal.invariant-loop-i
-invariant-loop-i l = l.out ≡ turns (put l.k l.registers) l.i (replicate 16 0)
+invariant-loop-i l = l.out ≡ turns (put l.k l.fn.registers) l.i (replicate 16 0)

@@ -14,25 +14,25 @@ use Rattle.calculations.specs.declared.Answer.{Answer}
 use Rattle.calculations.specs.declared.Answer.TheVariants as told
 
 -- the answer to ciphering: the body holds it, or it is refused
-abbrev pub told_by : Result (Unit {0}) Refusal → Answer
-told_by (Ok done) = told.InBody
-told_by (Err refusal) = told.Refused refusal
+abbrev pub told_by : Result (Unit {0}) Refusal → Result Answer Refusal
+told_by (Ok done) = Ok told.InBody
+told_by (Err refusal) = Err refusal
 
 -- the answer to a calculation, given the body
-abbrev pub answer_of : Calculation → List ℕ → Answer
-answer_of (asked.Lfsr lfsr) body = told.Word (cycled lfsr)
-answer_of (asked.Digits key) body = told.Key key
-answer_of (asked.Check of) body = told.EighteenBits (akey_check_of of)
-answer_of (asked.NewSsd of) body = told.Ssd (new_ssd_of of)
-answer_of (asked.Sign of) body = told.EighteenBits (signature_of of).signature
-answer_of (asked.SignLeft of) body = told.Signed (signature_of of)
-answer_of (asked.CmeaKey of) body = told.CmeaKey (cmea_key_of of)
-answer_of (asked.VoiceMask of) body = told.VoiceMask (call_keys_of of).voice_mask
+abbrev pub answer_of : Calculation → List ℕ → Result Answer Refusal
+answer_of (asked.Lfsr lfsr) body = Ok (told.Word (cycled lfsr))
+answer_of (asked.Digits key) body = Ok (told.Key key)
+answer_of (asked.Check of) body = Ok (told.EighteenBits (akey_check_of of))
+answer_of (asked.NewSsd of) body = Ok (told.Ssd (new_ssd_of of))
+answer_of (asked.Sign of) body = Ok (told.EighteenBits (signature_of of).signature)
+answer_of (asked.SignLeft of) body = Ok (told.Signed (signature_of of))
+answer_of (asked.CmeaKey of) body = Ok (told.CmeaKey (cmea_key_of of))
+answer_of (asked.VoiceMask of) body = Ok (told.VoiceMask (call_keys_of of).voice_mask)
 answer_of (asked.Cmea key) body = told_by (answer_to body)
-answer_of (asked.KStep k) body = told.Word (step_k k)
-answer_of (asked.DataKey of) body = told.Call (call_of of.ssd_b of.rand)
-answer_of (asked.Mask of) body = told.InBody
-answer_of asked.SelfTest body = told.Passed true
+answer_of (asked.KStep k) body = Ok (told.Word (step_k k))
+answer_of (asked.DataKey of) body = Ok (told.Call (call_of of.ssd_b of.rand))
+answer_of (asked.Mask of) body = Ok told.InBody
+answer_of asked.SelfTest body = Ok (told.Passed true)
 
 -- the body after a calculation: a message is ciphered, a mask fills it, and no other calculation touches it
 abbrev pub body_after : Calculation → List ℕ → List ℕ

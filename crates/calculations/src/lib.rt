@@ -3,7 +3,6 @@
 #![tactic(auto)]
 
 ghost use Rattle.std.specs.Prelude.{◌≡◌};
-ghost use Rattle.calculations.specs.declared.Calculation.TheVariants.{Cmea};
 ghost use Rattle.calculations.specs.Answers.{answer_of, body_after};
 
 use auth::keys::{call_keys, cmea_key};
@@ -12,6 +11,7 @@ use auth::uses::{akey_check, new_ssd, sign};
 use cave::lfsr::lfsr_cycle;
 use cmea::key::CmeaKey;
 use examples::self_test;
+use hex_field::Hex;
 use oryx::call::OryxCall;
 use oryx::steps::step_k;
 use refusal::Refusal;
@@ -63,27 +63,15 @@ pub enum Answer {
     Call(OryxCall),
     // the body holds it
     InBody,
-    Refused(Refusal),
     Passed(bool),
 }
 
-// Ciphers the body under a CMEA key.
-fn cipher(key: u64, body: &mut [u8]) -> Answer
-    ensures answer { result ≡ answer_of (Cmea key) body.old }
-    ensures body { body.new ≡ body_after (Cmea key) body.old }
-{
-    match CmeaKey::new(key.to_be_bytes()).cipher(body) {
-        Ok(()) => Answer::InBody,
-        Err(refusal) => Answer::Refused(refusal),
-    }
-}
-
 // The answer to a calculation, and what it makes of the body.
-pub fn perform(calculation: Calculation, body: &mut [u8]) -> Answer
+pub fn perform(calculation: Calculation, body: &mut [u8]) -> Result<Answer, Refusal>
     ensures answer { result ≡ answer_of calculation body.old }
     ensures body { body.new ≡ body_after calculation body.old }
 {
-    match calculation {
+    Ok(match calculation {
         Calculation::Lfsr(lfsr) => Answer::Word(lfsr_cycle(lfsr)),
         Calculation::Digits(key) => Answer::Key(key),
         Calculation::Check(of) => Answer::EighteenBits(akey_check(of)),
@@ -92,7 +80,10 @@ pub fn perform(calculation: Calculation, body: &mut [u8]) -> Answer
         Calculation::SignLeft(of) => Answer::Signed(sign(of)),
         Calculation::CmeaKey(of) => Answer::CmeaKey(cmea_key(of)),
         Calculation::VoiceMask(of) => Answer::VoiceMask(call_keys(of).voice_mask),
-        Calculation::Cmea(key) => cipher(key, body),
+        Calculation::Cmea(key) => {
+            CmeaKey::new(key.to_be_bytes()).cipher(body)?;
+            Answer::InBody
+        }
         Calculation::KStep(k) => Answer::Word(step_k(k)),
         Calculation::DataKey(of) => Answer::Call(OryxCall::new(of.ssd_b, of.rand)),
         Calculation::Mask(of) => {
@@ -100,15 +91,7 @@ pub fn perform(calculation: Calculation, body: &mut [u8]) -> Answer
             Answer::InBody
         }
         Calculation::SelfTest => Answer::Passed(self_test()),
-    }
-}
-
-// Bytes in hex.
-fn write_hex<W: fmt::Write>(f: &mut fmt::Formatter<W>, bytes: &[u8]) -> fmt::Result {
-    for byte in bytes {
-        write!(f, "{byte:02X}")?;
-    }
-    Ok(())
+    })
 }
 
 // An answer as it is printed, with the body that may hold it.
@@ -129,17 +112,13 @@ impl fmt::Display for Shown<'_> {
             Answer::Signed(s) => write!(
                 f,
                 "{:05X} {:08X} {:02X} {:02X}",
-                s.signature, s.lfsr, s.offset1, s.offset2
+                s.signature, s.left.lfsr, s.left.offset1, s.left.offset2
             ),
-            Answer::CmeaKey(key) => write_hex(f, key),
-            Answer::VoiceMask(mask) => write_hex(f, mask),
-            Answer::Call(call) => {
-                write!(f, "{:08X} ", call.data_key)?;
-                write_hex(f, &call.table)
-            }
+            Answer::CmeaKey(key) => write!(f, "{}", Hex(key)),
+            Answer::VoiceMask(mask) => write!(f, "{}", Hex(mask)),
+            Answer::Call(call) => write!(f, "{:08X} {}", call.data_key, Hex(&call.table)),
             Answer::InBody if self.body.is_empty() => write!(f, "-"),
-            Answer::InBody => write_hex(f, self.body),
-            Answer::Refused(refusal) => write!(f, "error: {refusal}"),
+            Answer::InBody => write!(f, "{}", Hex(self.body)),
             Answer::Passed(true) => write!(f, "ok"),
             Answer::Passed(false) => write!(f, "failed"),
         }

@@ -12,7 +12,7 @@ use Rattle.keying.specs.declared.terminal.Keyed.{Keyed}
 -- what the opening leaves once it is signed
 abbrev pub opened : ℕ → Numbers → Ssd → Signed → OpeningRecord
 opened esn n ssd s =
-    record { ssd_b = ssd.b; esn = esn; rand = n.rand; auth_data = n.auth_data; lfsr = s.lfsr; offset1 = s.offset1; offset2 = s.offset2 }
+    record { ssd_b = ssd.b; esn = esn; rand = n.rand; auth_data = n.auth_data; left = s.left }
 
 -- the secrets and keys that follow from an A-key
 abbrev pub keyed_with : ℕ → Numbers → ℕ → Keyed

@@ -7,20 +7,19 @@ mod report;
 mod request;
 mod terminal;
 
-use report::{print_keyed, print_refusal};
+use report::Explained;
 use request::read_request;
 use std::io;
 use std::io::{BufRead, BufReader};
 use terminal::key_terminal;
 
 fn answer(rt: &impl Print, line: &str) -> io::Result<()> {
-    print!(rt; "{line} -> ")?;
     match read_request(line.as_bytes()) {
-        Ok(q) => match key_terminal(q.esn, q.typed, q.numbers) {
-            Ok(keyed) => print_keyed(rt, &keyed),
-            Err(refusal) => print_refusal(rt, refusal),
+        Ok(request) => match key_terminal(request.esn, request.typed, request.numbers) {
+            Ok(keyed) => println!(rt; "{line} -> {keyed}"),
+            Err(refusal) => println!(rt; "{line} -> {}", Explained(refusal)),
         },
-        Err(form) => println!(rt; "error: expected {form}"),
+        Err(expected) => println!(rt; "{line} -> error: {expected}"),
     }
 }
 

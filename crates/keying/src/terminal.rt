@@ -45,9 +45,7 @@ fn derive_keys(esn: u32, numbers: Numbers, key: u64) -> Keyed
         esn,
         rand: numbers.rand,
         auth_data: numbers.auth_data,
-        lfsr: signed.lfsr,
-        offset1: signed.offset1,
-        offset2: signed.offset2,
+        left: signed.left,
     });
     Keyed {
         key,

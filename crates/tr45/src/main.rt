@@ -16,15 +16,16 @@ fn answer(rt: &impl Print, heap: Global, line: &str) -> io::Result<()> {
         Err(fault) => return println!(rt; "{line} -> error: {fault}"),
     };
     let mut body = Vec::from_elem(heap, 0, request.body.length())?;
-    if let Err(fault) = request.body.fill(&mut body) {
-        return println!(rt; "{line} -> error: {fault}");
+    if let Err(expected) = request.body.fill(&mut body) {
+        return println!(rt; "{line} -> error: {expected}");
     }
-    let answer = perform(request.calculation, &mut body);
-    let shown = Shown {
-        answer,
-        body: &body,
-    };
-    println!(rt; "{line} -> {shown}")
+    match perform(request.calculation, &mut body) {
+        Ok(answer) => {
+            let body = &body;
+            println!(rt; "{line} -> {}", Shown { answer, body })
+        }
+        Err(refusal) => println!(rt; "{line} -> error: {refusal}"),
+    }
 }
 
 fn main(rt: HostRuntime) -> io::Result<()> {

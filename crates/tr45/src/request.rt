@@ -1,9 +1,12 @@
 // Reading a line: the name of a calculation, and its fields.
-use auth::types::{AuthData, Challenge, OpeningRecord, RandSsd, Renewal, TerminalKey};
+use auth::types::{Challenge, OpeningRecord, Renewal, RunEnd, TerminalKey};
 use calculations::{Calculation, CallInputs, MaskInputs};
 use entry::read_key;
+use fields::expected::Expected;
+use fields::field::Field;
 use fields::words::Words;
 use hex_field::read_hex;
+use std::error::Error;
 use std::fmt;
 
 // What a line asks for: a calculation, and the body that it works on.
@@ -32,20 +35,20 @@ impl<'a> Body<'a> {
     }
 
     // Fills in its bytes.
-    pub(crate) fn fill(self, bytes: &mut [u8]) -> Result<(), Fault> {
+    pub(crate) fn fill(self, bytes: &mut [u8]) -> Result<(), Expected> {
         match self {
-            Body::Hex(text) if !read_hex(text, bytes) => Err(Fault::Field(MESSAGE)),
-            _ => Ok(()),
+            Body::Hex(text) => read_hex(text, bytes).map_err(|_| Expected(MESSAGE)),
+            Body::Room(_) => Ok(()),
         }
     }
 }
 
 // Why a line cannot be answered.
-#[derive(Clone, Copy)]
+#[derive(Clone, Copy, PartialEq, Eq, Debug)]
 pub enum Fault {
     UnknownName,
     // a field is missing, or does not have the form of its name
-    Field(&'static str),
+    Field(Expected),
     MoreFields,
 }
 
@@ -53,9 +56,17 @@ impl fmt::Display for Fault {
     fn fmt<W: fmt::Write>(&self, f: &mut fmt::Formatter<W>) -> fmt::Result {
         match self {
             Fault::UnknownName => write!(f, "no such calculation"),
-            Fault::Field(form) => write!(f, "expected {form}"),
+            Fault::Field(expected) => write!(f, "{expected}"),
             Fault::MoreFields => write!(f, "more fields than it takes"),
         }
+    }
+}
+
+impl Error for Fault {}
+
+impl From<Expected> for Fault {
+    fn from(expected: Expected) -> Fault {
+        Fault::Field(expected)
     }
 }
 
@@ -84,230 +95,132 @@ const RANDSSD: &str = "RANDSSD: 14 hex digits";
 
 const SECRET: &str = "KEY or SSD: 16 hex digits";
 
-// The fields of a line, taken one by one from the front. Where one cannot be read, a zero stands in for it, and the first such
-// fault is kept: a line with a fault asks for nothing.
-#[derive(Clone, Copy)]
-struct Fields<'a> {
-    words: Words<'a>,
-    fault: Option<Fault>,
+// The next field, of this form.
+fn field<F: Field>(words: &mut Words<'_>, form: &'static str) -> Result<F, Expected> {
+    words.next_field().ok_or(Expected(form))
 }
 
-impl<'a> Fields<'a> {
-    // What was read of a field; or a zero, and the fault is kept.
-    fn or_fault<T: Copy>(&mut self, read: Option<T>, zero: T, form: &'static str) -> T {
-        match read {
-            Some(value) => value,
-            None => {
-                if self.fault.is_none() {
-                    self.fault = Some(Fault::Field(form));
-                }
-                zero
-            }
-        }
-    }
-
-    fn word(&mut self, form: &'static str) -> u32 {
-        let read = self.words.next_u32();
-        self.or_fault(read, 0, form)
-    }
-
-    fn secret(&mut self) -> u64 {
-        let read = self.words.next_u64();
-        self.or_fault(read, 0, SECRET)
-    }
-
-    fn offset(&mut self) -> u8 {
-        let read = self.words.next_u8();
-        self.or_fault(read, 0, OFFSET)
-    }
-
-    fn auth_data(&mut self) -> AuthData {
-        let read = self.words.next_auth_data();
-        self.or_fault(read, AuthData([0; 3]), AUTH_DATA)
-    }
-
-    fn rand_ssd(&mut self) -> RandSsd {
-        let read = self.words.next_rand_ssd();
-        self.or_fault(read, RandSsd([0; 7]), RANDSSD)
-    }
-
-    fn digits(&mut self) -> u64 {
-        let read = read_digits(self.words.next_word());
-        self.or_fault(read, 0, DIGITS)
-    }
-
-    fn message(&mut self) -> Body<'a> {
-        let read = read_message(self.words.next_word());
-        self.or_fault(read, Body::Room(0), MESSAGE)
-    }
-
-    fn length(&mut self) -> Body<'a> {
-        let read = read_length(self.words.next_number());
-        self.or_fault(read, Body::Room(0), LENGTH)
-    }
-
-    fn terminal_key(&mut self) -> TerminalKey {
-        TerminalKey {
-            esn: self.word(ESN),
-            key: self.secret(),
-        }
-    }
-
-    fn renewal(&mut self) -> Renewal {
-        Renewal {
-            esn: self.word(ESN),
-            key: self.secret(),
-            rand_ssd: self.rand_ssd(),
-        }
-    }
-
-    fn challenge(&mut self) -> Challenge {
-        Challenge {
-            esn: self.word(ESN),
-            secret: self.secret(),
-            rand: self.word(RAND),
-            auth_data: self.auth_data(),
-        }
-    }
-
-    // What a call opens with, and then what the opening signature left.
-    fn opening(&mut self) -> OpeningRecord {
-        OpeningRecord {
-            esn: self.word(ESN),
-            ssd_b: self.secret(),
-            rand: self.word(RAND),
-            auth_data: self.auth_data(),
-            lfsr: self.word(LFSR),
-            offset1: self.offset(),
-            offset2: self.offset(),
-        }
-    }
-
-    fn call(&mut self) -> CallInputs {
-        CallInputs {
-            ssd_b: self.secret(),
-            rand: self.word(RAND),
-        }
-    }
-
-    fn mask(&mut self) -> MaskInputs {
-        MaskInputs {
-            call: self.call(),
-            hook: self.word(HOOK),
-        }
-    }
-
-    // The fields of a calculation.
-    fn calculation(&mut self, name: Name) -> Calculation {
-        match name {
-            Name::Lfsr => Calculation::Lfsr(self.word(LFSR)),
-            Name::AKey => Calculation::Digits(self.digits()),
-            Name::AKeyCheck => Calculation::Check(self.terminal_key()),
-            Name::Ssd => Calculation::NewSsd(self.renewal()),
-            Name::Sign => Calculation::Sign(self.challenge()),
-            Name::SignLeft => Calculation::SignLeft(self.challenge()),
-            Name::CmeaKey => Calculation::CmeaKey(self.opening()),
-            Name::Vpm => Calculation::VoiceMask(self.opening()),
-            Name::Cmea => Calculation::Cmea(self.secret()),
-            Name::KStep => Calculation::KStep(self.word(K)),
-            Name::DataKey => Calculation::DataKey(self.call()),
-            Name::Mask => Calculation::Mask(self.mask()),
-            Name::SelfTest => Calculation::SelfTest,
-        }
-    }
-
-    // The body of a calculation, which stands behind its other fields.
-    fn body(&mut self, name: Name) -> Body<'a> {
-        match name {
-            Name::Cmea => self.message(),
-            Name::Mask => self.length(),
-            _ => Body::Room(0),
-        }
-    }
+fn terminal_key(words: &mut Words<'_>) -> Result<TerminalKey, Expected> {
+    Ok(TerminalKey {
+        esn: field(words, ESN)?,
+        key: field(words, SECRET)?,
+    })
 }
 
-fn read_digits(word: &[u8]) -> Option<u64> {
-    if word == b"-".as_slice() {
-        return Some(0);
+fn renewal(words: &mut Words<'_>) -> Result<Renewal, Expected> {
+    Ok(Renewal {
+        esn: field(words, ESN)?,
+        key: field(words, SECRET)?,
+        rand_ssd: field(words, RANDSSD)?,
+    })
+}
+
+fn challenge(words: &mut Words<'_>) -> Result<Challenge, Expected> {
+    Ok(Challenge {
+        esn: field(words, ESN)?,
+        secret: field(words, SECRET)?,
+        rand: field(words, RAND)?,
+        auth_data: field(words, AUTH_DATA)?,
+    })
+}
+
+// What a run of CAVE leaves.
+fn run_end(words: &mut Words<'_>) -> Result<RunEnd, Expected> {
+    Ok(RunEnd {
+        lfsr: field(words, LFSR)?,
+        offset1: field(words, OFFSET)?,
+        offset2: field(words, OFFSET)?,
+    })
+}
+
+// What a call opens with, and then what the opening signature left.
+fn opening(words: &mut Words<'_>) -> Result<OpeningRecord, Expected> {
+    Ok(OpeningRecord {
+        esn: field(words, ESN)?,
+        ssd_b: field(words, SECRET)?,
+        rand: field(words, RAND)?,
+        auth_data: field(words, AUTH_DATA)?,
+        left: run_end(words)?,
+    })
+}
+
+fn call(words: &mut Words<'_>) -> Result<CallInputs, Expected> {
+    Ok(CallInputs {
+        ssd_b: field(words, SECRET)?,
+        rand: field(words, RAND)?,
+    })
+}
+
+fn mask(words: &mut Words<'_>) -> Result<MaskInputs, Expected> {
+    Ok(MaskInputs {
+        call: call(words)?,
+        hook: field(words, HOOK)?,
+    })
+}
+
+// The key digits of an A-key, at most 20.
+fn digits(words: &mut Words<'_>) -> Result<u64, Expected> {
+    match words.next_word() {
+        Some(b"-") => Ok(0),
+        Some(word) if word.len() <= 20 => read_key(word).map_err(|_| Expected(DIGITS)),
+        _ => Err(Expected(DIGITS)),
     }
-    if word.is_empty() || word.len() > 20 {
-        return None;
-    }
-    read_key(word).ok()
 }
 
 // A message, of which the digits are read later.
-fn read_message<'a>(word: &'a [u8]) -> Option<Body<'a>> {
-    if word.is_empty() {
-        return None;
-    }
-    if word == b"-".as_slice() {
-        return Some(Body::Room(0));
-    }
-    Some(Body::Hex(word))
-}
-
-fn read_length<'a>(number: Option<u32>) -> Option<Body<'a>> {
-    match number {
-        Some(length) if length <= 0xffff => Some(Body::Room(length as usize)),
-        _ => None,
+fn message<'a>(words: &mut Words<'a>) -> Result<Body<'a>, Expected> {
+    match words.next_word() {
+        Some(b"-") => Ok(Body::Room(0)),
+        Some(word) => Ok(Body::Hex(word)),
+        None => Err(Expected(MESSAGE)),
     }
 }
 
-// The name of a calculation.
-#[derive(Clone, Copy)]
-enum Name {
-    Lfsr,
-    AKey,
-    AKeyCheck,
-    Ssd,
-    Sign,
-    SignLeft,
-    CmeaKey,
-    Vpm,
-    Cmea,
-    KStep,
-    DataKey,
-    Mask,
-    SelfTest,
+// Room for a mask.
+fn room<'a>(words: &mut Words<'_>) -> Result<Body<'a>, Expected> {
+    match words.next_number() {
+        Some(length) if length <= 0xffff => Ok(Body::Room(length as usize)),
+        _ => Err(Expected(LENGTH)),
+    }
 }
 
-fn name_of(word: &[u8]) -> Result<Name, Fault> {
-    let names = [
-        (&b"lfsr"[..], Name::Lfsr),
-        (&b"akey"[..], Name::AKey),
-        (&b"akey_check"[..], Name::AKeyCheck),
-        (&b"ssd"[..], Name::Ssd),
-        (&b"sign"[..], Name::Sign),
-        (&b"signleft"[..], Name::SignLeft),
-        (&b"cmeakey"[..], Name::CmeaKey),
-        (&b"vpm"[..], Name::Vpm),
-        (&b"cmea"[..], Name::Cmea),
-        (&b"kstep"[..], Name::KStep),
-        (&b"datakey"[..], Name::DataKey),
-        (&b"mask"[..], Name::Mask),
-        (&b"selftest"[..], Name::SelfTest),
-    ];
-    for (text, name) in names {
-        if word == text {
-            return Ok(name);
-        }
+// The calculation of this name, with its fields.
+fn read_calculation(name: &[u8], words: &mut Words<'_>) -> Result<Calculation, Fault> {
+    Ok(match name {
+        b"lfsr" => Calculation::Lfsr(field(words, LFSR)?),
+        b"akey" => Calculation::Digits(digits(words)?),
+        b"akey_check" => Calculation::Check(terminal_key(words)?),
+        b"ssd" => Calculation::NewSsd(renewal(words)?),
+        b"sign" => Calculation::Sign(challenge(words)?),
+        b"signleft" => Calculation::SignLeft(challenge(words)?),
+        b"cmeakey" => Calculation::CmeaKey(opening(words)?),
+        b"vpm" => Calculation::VoiceMask(opening(words)?),
+        b"cmea" => Calculation::Cmea(field(words, SECRET)?),
+        b"kstep" => Calculation::KStep(field(words, K)?),
+        b"datakey" => Calculation::DataKey(call(words)?),
+        b"mask" => Calculation::Mask(mask(words)?),
+        b"selftest" => Calculation::SelfTest,
+        _ => return Err(Fault::UnknownName),
+    })
+}
+
+// The body of a calculation, which stands behind its other fields.
+fn read_body<'a>(calculation: Calculation, words: &mut Words<'a>) -> Result<Body<'a>, Expected> {
+    match calculation {
+        Calculation::Cmea(_) => message(words),
+        Calculation::Mask(_) => room(words),
+        _ => Ok(Body::Room(0)),
     }
-    Err(Fault::UnknownName)
 }
 
 // What a line asks for.
-pub(crate) fn read_line<'a>(line: &'a [u8]) -> Result<Request<'a>, Fault> {
+pub(crate) fn read_line(line: &[u8]) -> Result<Request<'_>, Fault> {
     let mut words = Words::new(line);
-    let name = name_of(words.next_word())?;
-    let mut fields = Fields { words, fault: None };
-    let calculation = fields.calculation(name);
-    let body = fields.body(name);
-    if let Some(fault) = fields.fault {
-        return Err(fault);
+    let name = words.next_word().ok_or(Fault::UnknownName)?;
+    let calculation = read_calculation(name, &mut words)?;
+    let body = read_body(calculation, &mut words)?;
+    match words.next_word() {
+        None => Ok(Request { calculation, body }),
+        Some(_) => Err(Fault::MoreFields),
     }
-    if !fields.words.next_word().is_empty() {
-        return Err(Fault::MoreFields);
-    }
-    Ok(Request { calculation, body })
 }

@@ -1,17 +1,14 @@
-use Rattle.std.proofs.Common.{ap, ◌∙◌}
-use Rattle.cipher.specs.Kind.{answers, ciphered}
+use Rattle.std.proofs.Common.{◌<◌, rules}
+use Rattle.std.proofs.lemmas.List.Elements.{All-from_get_or}
+use Rattle.cipher.specs.Kind.{Bytes}
 use Rattle.cipher.proofs.Returning.{ciphered_twice}
 use Rattle.cipher.proofs.trip.there_and_back.Goals as goal
 
-pub returns : goal.returns
-returns g c =
-    let k = g.C.Cipher.kind c.args.cipher.now in
-    let o = g.C.Cipher.keyed c.args.cipher.now in
-    let law = g.met.C.Cipher.lawful in
-    let there = c.in_ok-cipher.ensures in
-    let back = c.cipher-2.ensures in
-    record {
-      answer = back.answer ∙ ap (answers k o) c.cipher.auto.body;
-      back = back.after ∙ ap (ciphered k o c.args.hook) there.after ∙ ciphered_twice k (law c.args.cipher.now) o c.args.hook c.args.body.now c.measure.ensures.bytes;
-      always = λ x keyed hook xs bytes. ciphered_twice (g.C.Cipher.kind x) (law x) keyed hook xs bytes;
-    }
+pub returns-clause-back : goal.returns-clause-back
+returns-clause-back g c =
+    let bytes : Bytes c.args.body.now = All-from_get_or (λ x. x < 256) _ 0 (λ i h. search rules) in
+    let back = ciphered_twice _ (g.met.C.Cipher.lawful c.args.cipher.now) (g.C.Cipher.keyed c.args.cipher.now) c.args.hook _ bytes in
+    cc
+
+pub returns-clause-always : goal.returns-clause-always
+returns-clause-always g c x keyed hook xs bytes = ciphered_twice _ (g.met.C.Cipher.lawful x) keyed hook xs bytes

@@ -7,6 +7,7 @@ use crate::fault::CipherFault;
 use crate::kind::Cipher;
 
 // Enciphers a body and deciphers it again. Under every cipher that gives the body back, and a refused body stays as it was too.
+#[tactic(auto, using(crate::proofs::Returning::ciphered_twice))]
 pub fn there_and_back<C: Cipher>(cipher: &C, hook: u32, body: &mut [u8]) -> Result<(), CipherFault>
     ensures answer { result ≡ answers (C.Cipher.kind cipher.now) (C.Cipher.keyed cipher.now) (length body.old) }
     ensures back { body.new ≡ body.old }

@@ -6,3 +6,5 @@ pub mod call_key;
 pub mod cmea_cipher;
 pub mod keyed;
 pub mod oryx_cipher;
+#[cfg(test)]
+mod tests;

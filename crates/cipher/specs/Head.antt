@@ -1,8 +1,7 @@
 -- A clear head over a kind.
-use Rattle.std.specs.Prelude.{ℕ, ◌+◌, ◌-◌, ◌^◌, min, cond, ◌++◌, take, drop, Ok, Err, Result}
+use Rattle.std.specs.Prelude.{ℕ, ◌+◌, ◌-◌, ◌^◌, min, if◌then◌else◌, ◌++◌, take, drop}
 use Rattle.cipher.specs.declared.fault.CipherFault.{CipherFault}
 use Rattle.cipher.specs.declared.fault.CipherFault.TheVariants.{NotKeyed, WrongLength}
-use Rattle.cipher.specs.declared.head.FromBelow.{FromBelow}
 use Rattle.cipher.specs.Kind.{Kind, Seen, within, here}
 
 -- one layer more, counted as far as 32 bits go
@@ -20,15 +19,10 @@ headed h k =
     record {
       least = min (h + k.least) 65;
       image = λ o hook xs. take h xs ++ k.image o hook (drop h xs);
-      tells = λ n. cond (within h n) (below (k.tells (n - h))) (here n);
+      tells = λ n. if within h n then below (k.tells (n - h)) else here n;
     }
 
 -- a fault from below with one layer more above it
 abbrev pub raised : CipherFault → CipherFault
 raised NotKeyed = NotKeyed
 raised (WrongLength length layers) = WrongLength length (one_more layers)
-
--- an answer from below, as the layer above it hands it on
-abbrev pub raised_answer : Result (Unit {0}) CipherFault → Result (Unit {0}) FromBelow
-raised_answer (Ok done) = Ok done
-raised_answer (Err fault) = Err (record { fault = raised fault })

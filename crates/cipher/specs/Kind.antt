@@ -1,5 +1,5 @@
 -- What a cipher kind is, its law, and what ciphering answers and leaves.
-use Rattle.std.specs.Prelude.{◌≡◌, ℕ, ◌<◌, ◌≤◌, Bool, cond, ◌&&◌, List, All, length, Some, None, Ok, Err, Option, Result, nat_le}
+use Rattle.std.specs.Prelude.{◌≡◌, ℕ, ◌<◌, ◌≤◌, Bool, if◌then◌else◌, ◌&&◌, List, All, length, Some, None, Ok, Err, Option, Result, nat_le}
 use Rattle.auth.specs.declared.types.OpeningRecord.{OpeningRecord}
 use Rattle.cipher.specs.declared.fault.CipherFault.{CipherFault}
 use Rattle.cipher.specs.declared.fault.CipherFault.TheVariants.{NotKeyed, WrongLength}
@@ -39,14 +39,14 @@ here n = record { bytes = n; layers = 0 }
 
 -- the answer of a cipher that sees the length of a body itself
 abbrev pub sees : ℕ → ℕ → Result (Unit {0}) CipherFault
-sees least n = cond (within least n) (Ok tt) (Err (fault_of (here n)))
+sees least n = if within least n then Ok tt else Err (fault_of (here n))
 
 -- the answer to ciphering n bytes: refused if not keyed, then if the kind does not take the length, and for nothing else
 abbrev pub answers : Kind → Option OpeningRecord → ℕ → Result (Unit {0}) CipherFault
 answers k None n = Err NotKeyed
-answers k (Some o) n = cond (within k.least n) (Ok tt) (Err (fault_of (k.tells n)))
+answers k (Some o) n = if within k.least n then Ok tt else Err (fault_of (k.tells n))
 
 -- the body afterwards: its image, or where it is refused the body as it was
 abbrev pub ciphered : Kind → Option OpeningRecord → ℕ → List ℕ → List ℕ
 ciphered k None hook xs = xs
-ciphered k (Some o) hook xs = cond (within k.least (length xs)) (k.image o hook xs) xs
+ciphered k (Some o) hook xs = if within k.least (length xs) then k.image o hook xs else xs

@@ -1,4 +1,5 @@
 // Why ciphering declines.
+ghost use Rattle.std.specs.Prelude.{◌≡◌};
 
 #[derive(Clone, Copy, PartialEq, Eq, Debug)]
 pub enum CipherFault {
@@ -6,4 +7,21 @@ pub enum CipherFault {
     NotKeyed,
     // a body of a length that the kind does not take, with how many layers lie above the one that saw this length
     WrongLength { length: usize, layers: u32 },
+}
+
+impl CipherFault {
+    ghost use Rattle.cipher.specs.Head.{raised};
+
+    // The fault as the layer above reports it: it has one layer more above it, counted as far as 32 bits go.
+    pub fn one_layer_up(self) -> Self
+        ensures { result ≡ raised self }
+    {
+        match self {
+            CipherFault::NotKeyed => self,
+            CipherFault::WrongLength { length, layers } => CipherFault::WrongLength {
+                length,
+                layers: layers.saturating_add(1),
+            },
+        }
+    }
 }

@@ -1,8 +1,7 @@
 // A clear head over any cipher: the first bytes of a body stay as they are, and the rest is handed on to the cipher below. Heads can
 // be stacked.
-ghost use Rattle.std.specs.Prelude.{◌≡◌, min, length};
-ghost use Rattle.cipher.specs.Kind.{answers, ciphered};
-ghost use Rattle.cipher.specs.Head.{headed, raised, raised_answer};
+ghost use Rattle.std.specs.Prelude.{◌≡◌, min};
+ghost use Rattle.cipher.specs.Head.{headed};
 ghost use Rattle.cipher.specs.Laws.{headed_lawful};
 
 use crate::fault::CipherFault;
@@ -18,37 +17,6 @@ pub struct ClearHead<C> {
     below: C,
 }
 
-// A fault of the cipher below, as the layer above it reports it.
-#[derive(Clone, Copy)]
-struct FromBelow {
-    fault: CipherFault,
-}
-
-// On its way up a fault has one layer more above it, counted as far as 32 bits go.
-impl From<CipherFault> for FromBelow {
-    ghost from_gives = { λ fault r. r.fault ≡ raised fault };
-
-    fn from(fault: CipherFault) -> FromBelow {
-        match fault {
-            CipherFault::NotKeyed => FromBelow { fault },
-            CipherFault::WrongLength { length, layers } => {
-                let layers = layers.saturating_add(1);
-                FromBelow {
-                    fault: CipherFault::WrongLength { length, layers },
-                }
-            }
-        }
-    }
-}
-
-impl From<FromBelow> for CipherFault {
-    ghost from_gives = { λ from r. r ≡ from.fault };
-
-    fn from(from: FromBelow) -> CipherFault {
-        from.fault
-    }
-}
-
 impl<C: Cipher> ClearHead<C> {
     // A head of so many bytes, or of 8 where that is more.
     pub fn new(head: u8, below: C) -> Self
@@ -59,15 +27,6 @@ impl<C: Cipher> ClearHead<C> {
             head: head.min(MOST_HEAD),
             below,
         }
-    }
-
-    // Hands the rest of a body on.
-    fn hand_on(&self, hook: u32, rest: &mut [u8]) -> Result<(), FromBelow>
-        ensures answer { result ≡ raised_answer (answers (C.Cipher.kind self.now.below) (C.Cipher.keyed self.now.below) (length rest.old)) }
-        ensures after { rest.new ≡ ciphered (C.Cipher.kind self.now.below) (C.Cipher.keyed self.now.below) hook rest.old }
-    {
-        self.below.cipher(hook, rest)?;
-        Ok(())
     }
 }
 
@@ -92,7 +51,8 @@ impl<C: Cipher> Cipher for ClearHead<C> {
         }
         let head = self.head as usize;
         check_length(body.len(), head)?;
-        self.hand_on(hook, &mut body[head..])?;
-        Ok(())
+        self.below
+            .cipher(hook, &mut body[head..])
+            .map_err(CipherFault::one_layer_up)
     }
 }

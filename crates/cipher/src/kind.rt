@@ -38,8 +38,9 @@ const MOST: usize = 64;
 pub fn check_length(length: usize, least: usize) -> Result<(), CipherFault>
     ensures { result ≡ sees least length }
 {
-    if length < least || length > MOST {
-        return Err(CipherFault::WrongLength { length, layers: 0 });
+    if (least..=MOST).contains(&length) {
+        Ok(())
+    } else {
+        Err(CipherFault::WrongLength { length, layers: 0 })
     }
-    Ok(())
 }

@@ -1,8 +1,7 @@
 -- The law of each kind, from the laws of its cipher.
-use Rattle.std.specs.Prelude.{ℕ, ◌<◌, ◌≤◌, List, length}
-use Rattle.std.proofs.Common.{get_or, ⊎_elim, arith}
+use Rattle.std.specs.Prelude.{ℕ, ◌<◌, List}
+use Rattle.std.proofs.Common.{get_or, arith}
 use Rattle.std.proofs.lemmas.List.Elements.{All-get_or}
-use Rattle.std.proofs.lemmas.Bool.{cases_lt}
 use Rattle.std.proofs.lemmas.List.{get_or_past}
 use Rattle.auth.specs.Keys.{cmea_key_of}
 use Rattle.cipher.specs.Kind.{Lawful, Bytes}
@@ -13,11 +12,7 @@ use Rattle.kinds.specs.Kinds.{cmea_kind, oryx_kind}
 
 -- a list of bytes is read as bytes at every place, with 0 past its end
 bytes_at : (xs : List ℕ) → Bytes xs → (k : ℕ) → get_or xs k 0 < 256
-bytes_at xs bytes k =
-    ⊎_elim
-    (λ (inside : k < length xs). All-get_or (λ x. x < 256) xs k 0 inside bytes)
-    (λ (past : length xs ≤ k). rw (get_or_past xs k 0 past) (omega arith))
-    (cases_lt k (length xs))
+bytes_at xs bytes k = grind (arith, All-get_or (λ x. x < 256) xs k 0, get_or_past xs k 0)
 
 -- CMEA keeps the length and undoes itself
 pub cmea_lawful : Lawful cmea_kind

@@ -1,7 +1,10 @@
-// The cipher kinds of a call. Public, in `cmea_cipher` and `oryx_cipher`: `CmeaCipher` and `OryxCipher`, each with `new` and its
-// `Cipher`; and `cmea_there_and_back` and `oryx_there_and_back`, which encipher a body and decipher it again.
+// The cipher kinds of a call. Public: `KeyedCipher`, the cipher over what a kind derives from an opening record, with `new` and its
+// `Cipher`; the trait `CallKey`, which says what that is; and the two kinds, `CmeaCipher` and `OryxCipher`.
 #![tactic(auto)]
 
+pub mod call_key;
 pub mod cmea_cipher;
-mod held;
+pub mod keyed;
 pub mod oryx_cipher;
+#[cfg(test)]
+mod tests;

@@ -1,69 +1,31 @@
 // The ORYX kind: bodies of up to 64 bytes, each under the mask of its HOOK.
-ghost use Rattle.std.specs.Prelude.{◌≡◌, length, None};
-ghost use Rattle.cipher.specs.Kind.{answers};
-ghost use Rattle.cipher.specs.Trip.{Returns};
-ghost use Rattle.kinds.specs.Kinds.{oryx_kind, oryx_keyed};
+ghost use Rattle.oryx.specs.Frames.{masked};
+ghost use Rattle.kinds.specs.Kinds.{oryx_kind};
 ghost use Rattle.kinds.specs.Laws.{oryx_lawful};
 
-use crate::held::OryxHeld;
+use crate::call_key::CallKey;
+use crate::keyed::KeyedCipher;
 use auth::types::OpeningRecord;
-use cipher::fault::CipherFault;
-use cipher::kind::{Cipher, check_length};
-use cipher::trip::there_and_back;
 use oryx::call::OryxCall;
 
-// The fewest bytes of a body.
-const LEAST: usize = 0;
+pub type OryxCipher = KeyedCipher<OryxCall>;
 
-#[derive(Clone, Copy)]
-pub struct OryxCipher {
-    held: Option<OryxHeld>,
-}
+impl CallKey for OryxCall {
+    ghost LEAST = { oryx_kind.least };
 
-impl OryxCipher {
-    // A cipher that is not keyed.
-    pub fn new() -> Self
-        ensures { oryx_keyed result.held ≡ None }
-    {
-        OryxCipher { held: None }
-    }
-}
+    const LEAST: usize = 0;
 
-impl Cipher for OryxCipher {
-    ghost keyed = { λ c. oryx_keyed c.held };
+    ghost image = { oryx_kind.image };
 
-    ghost kind = { λ c. oryx_kind };
+    ghost applied = { λ call hook xs. masked call hook xs };
 
-    ghost lawful = { λ c. oryx_lawful };
+    ghost lawful = { oryx_lawful };
 
-    fn key(&mut self, opening: OpeningRecord) {
-        let call = OryxCall::new(opening.ssd_b, opening.rand);
-        self.held = Some(OryxHeld { opening, call });
+    fn derive(opening: OpeningRecord) -> Self {
+        OryxCall::new(opening.ssd_b, opening.rand)
     }
 
-    fn is_keyed(&self) -> bool {
-        self.held.is_some()
+    fn apply(&self, hook: u32, body: &mut [u8]) {
+        self.cipher(hook, body);
     }
-
-    fn cipher(&self, hook: u32, body: &mut [u8]) -> Result<(), CipherFault> {
-        let Some(held) = &self.held else {
-            return Err(CipherFault::NotKeyed);
-        };
-        check_length(body.len(), LEAST)?;
-        held.call.cipher(hook, body);
-        Ok(())
-    }
-}
-
-// Enciphers a body under ORYX and deciphers it again.
-pub fn oryx_there_and_back(
-    cipher: &OryxCipher,
-    hook: u32,
-    body: &mut [u8],
-) -> Result<(), CipherFault>
-    ensures answer { result ≡ answers oryx_kind (oryx_keyed cipher.now.held) (length body.old) }
-    ensures back { body.new ≡ body.old }
-    ensures always { Returns (λ (c : OryxCipher). oryx_kind) }
-{
-    there_and_back(cipher, hook, body)
 }

@@ -97,9 +97,7 @@ fn run_round(k: u8, m: CaveState) -> CaveState
     let n = mix(m);
     CaveState {
         registers: shuffle(k, rotate(n.registers)),
-        lfsr: n.lfsr,
-        offset1: n.offset1,
-        offset2: n.offset2,
+        ..n
     }
 }
 

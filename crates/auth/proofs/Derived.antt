@@ -8,10 +8,6 @@ use Rattle.auth.specs.Keys.{iteration, rolled, opening_loading, key_byte, mask_b
 use Rattle.auth.specs.declared.types.OpeningRecord.{OpeningRecord}
 
 module _ (o : OpeningRecord) where
-  loaded_sixteen : length (opening_loading o).registers ≡ 16
-  unfolding loading
-  loaded_sixteen = refl
-
   rolled_sixteen : (n : ℕ) → length (rolled o.rand (iteration o n)).registers ≡ 16
   unfolding iteration
   rolled_sixteen zero = registers_sixteen 8 (opening_loading o) (omega arith)
@@ -22,8 +18,8 @@ module _ (o : OpeningRecord) where
   next n = rw add-one refl
 
   iterations : Iterations o (iteration o)
-  unfolding iteration
-  iterations = record { first = run_law 8 (opening_loading o) (omega arith) loaded_sixteen; further = λ n. rw (next n) (run_law 4 _ (omega arith) (rolled_sixteen n)) }
+  unfolding iteration loading
+  iterations = record { first = run_law 8 (opening_loading o) (omega arith) refl; further = λ n. rw (next n) (run_law 4 _ (omega arith) (rolled_sixteen n)) }
 
   pub keys_by : KeysBy o (cmea_key_of o)
   unfolding cmea_key_of

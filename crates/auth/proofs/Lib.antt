@@ -1,2 +1,2 @@
-pub mod Eighteen
+pub mod Crossed
 pub mod Derived

@@ -1,5 +1,5 @@
 -- What the uses of CAVE load.
-use Rattle.std.specs.Prelude.{ℕ, ◌/◌, ◌%◌, ◌^◌, cond, List, ◌∷◌, ◌++◌, ◌==◌, bit_xor}
+use Rattle.std.specs.Prelude.{ℕ, ◌/◌, ◌%◌, ◌^◌, if◌then◌else◌, List, ◌∷◌, ◌++◌, ◌==◌, bit_xor}
 use Rattle.cave.specs.Bytes.{wide, bytes, part}
 use Rattle.cave.specs.declared.state.CaveState.{CaveState}
 use Rattle.auth.specs.declared.types.TerminalKey.{TerminalKey}
@@ -13,7 +13,7 @@ loading w secret xs esn =
 
 -- a, or b where a is zero
 abbrev pub if_zero : ℕ → ℕ → ℕ
-if_zero a b = cond (a == 0) b a
+if_zero a b = if a == 0 then b else a
 
 -- a number of 32 bits XOR both halves of a secret
 abbrev pub blended : ℕ → ℕ → ℕ

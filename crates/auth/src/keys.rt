@@ -44,6 +44,7 @@ fn iterate(rand: u32, m: CaveState) -> CaveState
 }
 
 // The CMEA key of a call, with the state of iteration 2, from which the mask goes on.
+#[tactic(auto, unfolding(crate::specs::Keys::cmea_key_of, crate::specs::Keys::iteration))]
 fn key_and_state(of: OpeningRecord) -> ([u8; 8], CaveState)
     ensures key { result.0 ≡ cmea_key_of of }
     ensures state { result.1 ≡ iteration of 2 }
@@ -83,6 +84,7 @@ fn mask_bytes(of: OpeningRecord, two: CaveState) -> [u8; 65]
 }
 
 // The CMEA key of a call.
+#[tactic(auto, using(crate::proofs::Derived::keys_by))]
 pub fn cmea_key(of: OpeningRecord) -> [u8; 8]
     ensures result { result ≡ cmea_key_of of }
     ensures lawful { KeysBy of result }
@@ -91,6 +93,7 @@ pub fn cmea_key(of: OpeningRecord) -> [u8; 8]
 }
 
 // The CMEA key and the voice privacy mask of a call.
+#[tactic(auto, using(crate::proofs::Derived::keys_by, crate::proofs::Derived::masks_by))]
 pub fn call_keys(of: OpeningRecord) -> CallKeys
     ensures result { result ≡ call_keys_of of }
     ensures key_lawful { KeysBy of result.cmea_key }

@@ -104,6 +104,7 @@ impl CaveUse for AuthSignature {
 }
 
 // The check of an A-key: 18 bits.
+#[tactic(auto, using(crate::proofs::Crossed::crossed_below))]
 pub fn akey_check(of: TerminalKey) -> u32
     ensures result { result ≡ akey_check_of of }
     ensures lawful { AnswersBy (akey_loading of) eighteen result }
@@ -121,6 +122,7 @@ pub fn new_ssd(of: Renewal) -> Ssd
 }
 
 // The authentication signature of a challenge, with what its run leaves.
+#[tactic(auto, using(crate::proofs::Crossed::crossed_below))]
 pub fn sign(of: Challenge) -> Signed
     ensures result { result ≡ signature_of of }
     ensures lawful { AnswersBy (signature_loading of) signed_of result }

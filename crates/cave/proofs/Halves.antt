@@ -1,13 +1,14 @@
 -- The search for a half byte one try at a time, as the loop of tries goes, and its law.
-use Rattle.std.proofs.Common.{◌≡◌, ℕ, zero, suc, ◌+◌, ◌-◌, ◌<◌, ◌⊎◌, refl, inl, inr, ⊎_elim, le_of_suc-le-suc, add-one, sub-one, arith}
+use Rattle.std.proofs.Common.{◌≡◌, ℕ, zero, suc, ◌-◌, ◌<◌, ◌⊎◌, refl, inl, inr, ⊎_elim, le_of_suc-le-suc, sub-one, arith}
 use lib.Bits.{bit_and}
 use Rattle.std.proofs.lemmas.Bool.{eq-eqb, ne_eqb, cases_eq}
 use Rattle.cave.specs.Lfsr.{cycled, d_raised}
 use Rattle.cave.specs.Sides.{mask_of}
-use Rattle.cave.specs.Mix.{tried, half_at, moved, turns}
+use Rattle.cave.specs.Mix.{tried, half_at, moved}
 use Rattle.cave.specs.Tries.{cycles, offset_after, Equal, FirstDiffering, Forced, Search}
 use Rattle.cave.specs.declared.side.Side.{Side}
 use Rattle.cave.specs.declared.side.Tried.{Tried}
+use Rattle.cave.proofs.Turns.{turning}
 
 module _ (s : Side) (r h w o : ℕ) where
   pub tried_differs : (n : ℕ) → 0 < n → (half_at s (moved s r w o) ≡ bit_and r (mask_of s) → ⊥) → tried s n r h w o ≡ record { lfsr = w; offset = moved s r w o; half = half_at s (moved s r w o) }
@@ -30,9 +31,8 @@ module _ (s : Side) (r h w o : ℕ) where
   unfolding tried
   tried_none n e = rw e refl
 
-pub turns_more : {S : Type 0} (f : ℕ → S → S) (n : ℕ) (s : S) → turns f (n + 1) s ≡ f n (turns f n s)
-unfolding turns
-turns_more f n s = rw add-one refl
+-- what the loops of `mix` go by
+pub ruleset mixing_steps = (turning, tried_differs, tried_again, tried_any, tried_none)
 
 -- The law of the search.
 module _ (s : Side) (r : ℕ) where

@@ -8,7 +8,8 @@ use Rattle.cave.specs.Law.{Treats, Mixing, Round, Run}
 use Rattle.cave.specs.Mix.{turns, right_of, mixed_at, mixed}
 use Rattle.cave.specs.Rounds.{round, after_rounds, rotated}
 use Rattle.cave.specs.declared.state.CaveState.{CaveState}
-use Rattle.cave.proofs.Halves.{search_law, turns_more}
+use Rattle.cave.proofs.Halves.{search_law}
+use Rattle.cave.proofs.Turns.{turns_more}
 use Rattle.cave.proofs.Permutes.{rows_permute, shuffle_moves, length_shuffled, shuffled_below}
 
 pub rounds_more : (n : ℕ) (m : CaveState) → 0 < n → after_rounds n m ≡ after_rounds (n - 1) (round (n - 1) m)
@@ -106,3 +107,6 @@ registers_below n m p i = after_last (λ m. get_or m.registers i 0 < 256) (λ m.
 
 pub registers_sixteen : (n : ℕ) (m : CaveState) → 0 < n → length (after_rounds n m).registers ≡ 16
 registers_sixteen = after_last (λ m. length m.registers ≡ 16) (λ m. length_shuffled 0 (rotated (mixed m).registers))
+
+-- what the loop of `run_down` goes by, and what it ends with
+pub ruleset rounds = (rounds_more, rounds_none, run_law, rows_permute)

@@ -1,3 +1,4 @@
+pub mod Turns
 pub mod Permutes
 pub mod Halves
 pub mod Lawful

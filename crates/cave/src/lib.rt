@@ -30,6 +30,7 @@ fn neighbour(registers: [u8; 16], i: usize, saved: u8) -> u8
 
 // R0 to R15 mixed in turn. Each half byte takes at most 32 tries: an equal one makes an LFSR cycle and another try, and
 // after the 32nd 1 is added to D and that half is used.
+#[tactic(auto, using(crate::proofs::Halves::mixing_steps), unfolding(crate::specs::Mix::mixed, crate::specs::Mix::mixed_at))]
 fn mix(start: CaveState) -> CaveState
     ensures { result ≡ mixed start }
 {
@@ -75,6 +76,7 @@ fn rotate(registers: [u8; 16]) -> [u8; 16]
 }
 
 // Register i moves to the place that entry i of row k names.
+#[tactic(auto, using(crate::proofs::Turns::turning), unfolding(crate::specs::Rounds::shuffled, crate::specs::Table::place))]
 fn shuffle(k: u8, registers: [u8; 16]) -> [u8; 16]
     requires { k < 8 }
     ensures { result ≡ shuffled k registers }
@@ -95,13 +97,12 @@ fn run_round(k: u8, m: CaveState) -> CaveState
     let n = mix(m);
     CaveState {
         registers: shuffle(k, rotate(n.registers)),
-        lfsr: n.lfsr,
-        offset1: n.offset1,
-        offset2: n.offset2,
+        ..n
     }
 }
 
 // The rounds from index n - 1 down to 0.
+#[tactic(auto, using(crate::proofs::Lawful::rounds))]
 fn run_down(start: CaveState, n: u8) -> CaveState
     requires { n ≤ 8 }
     ensures result { result ≡ after_rounds n start }

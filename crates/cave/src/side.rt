@@ -3,7 +3,7 @@ ghost use Rattle.std.specs.Prelude.{◌≡◌};
 ghost use Rattle.cave.specs.Sides.{stage_of, mask_of};
 
 // The low side takes the low half of a table's entry, the high side its high half.
-#[derive(Clone, Copy, PartialEq, Eq, Debug)]
+#[derive(Clone, Copy)]
 pub(crate) enum Side {
     Low,
     High,
@@ -33,7 +33,7 @@ impl Side {
 }
 
 // What the tries on one side leave: the LFSR, the offset, and the half byte found.
-#[derive(Clone, Copy, PartialEq, Eq, Debug)]
+#[derive(Clone, Copy)]
 pub(crate) struct Tried {
     pub lfsr: u32,
     pub offset: u8,

@@ -22,6 +22,7 @@ const CAVE_TABLE: [u8; 256] = [
 ];
 
 // One entry of the table.
+#[tactic(auto, unfolding(crate::specs::Table::table))]
 pub fn entry(at: u8) -> u8
     ensures { result ≡ slice_index table at }
 {

@@ -1,6 +1,0 @@
-use Rattle.auth.specs.Loading.{akey_loading}
-use Rattle.auth.proofs.Eighteen.{reads_18}
-use Rattle.auth.proofs.uses.akey_check.Goals as goal
-
-pub returns : goal.returns
-returns c = record { result = c.run.ensures.result; lawful = c.run.ensures.lawful; bits = rw c.run.ensures.result (reads_18 (akey_loading c.args.of)) }

@@ -9,16 +9,13 @@ ghost use Rattle.oryx.specs.Tables.{call_table, hash_table, into_a, into_b, into
 use crate::call::OryxCall;
 use crate::registers::Registers;
 use crate::steps::{high_byte, step_k};
+use std::array;
 
 // The numbers 0 to 255 in turn.
 fn ascending() -> [u8; 256]
     ensures { result ≡ range_with_len 0 256 }
 {
-    let mut table = [0; 256];
-    for i in 0..256 {
-        table[i] = i as u8;
-    }
-    table
+    array::from_fn(|i| i as u8)
 }
 
 // The table of a call. With each step of K the next entry and the one at the leftmost byte of K change places.
@@ -41,9 +38,9 @@ fn hash_table(start: u32) -> ([u8; 256], u32)
 {
     let mut table = [0; 256];
     let mut k = start;
-    for i in 0..256 {
+    for entry in table.iter_mut() {
         k = step_k(k);
-        table[i] = high_byte(k);
+        *entry = high_byte(k);
     }
     (table, k)
 }

@@ -1,8 +1,6 @@
-// The steps of the registers, and the key byte that they give.
+// The steps of the registers.
 ghost use Rattle.std.specs.Prelude.{◌≡◌};
-ghost use Rattle.oryx.specs.Steps.{high, left_step, step_k, step_a, step_b, steps_b, stepped, key_byte};
-
-use crate::registers::Registers;
+ghost use Rattle.oryx.specs.Steps.{high, left_step, step_k, step_a, step_b, steps_b};
 
 // The feedback of each register: where the bit that leaves it is XORed in.
 const FEEDBACK_K: u32 = 0xc672_b008;
@@ -55,35 +53,12 @@ pub fn step_b(b: u32) -> u32
 }
 
 // B stepped twice where the bit of K below its top bit is set, and else once.
-fn steps_b(k: u32, b: u32) -> u32
+pub(crate) fn steps_b(k: u32, b: u32) -> u32
     ensures { result ≡ steps_b k b }
 {
     if (k >> 30) % 2 == 1 {
         step_b(step_b(b))
     } else {
         step_b(b)
-    }
-}
-
-impl Registers {
-    // One step of all three: K first, and then A and B by the new K.
-    pub(crate) fn step(self) -> Registers
-        ensures { result ≡ stepped self }
-    {
-        let k = step_k(self.k);
-        Registers {
-            k,
-            a: step_a(k, self.a),
-            b: steps_b(k, self.b),
-        }
-    }
-
-    // The key byte of registers that have stepped.
-    pub(crate) fn key_byte(self, table: &[u8; 256]) -> u8
-        ensures { result ≡ key_byte table.now self }
-    {
-        high_byte(self.k)
-            .wrapping_add(table[high_byte(self.a) as usize])
-            .wrapping_add(table[high_byte(self.b) as usize])
     }
 }

@@ -7,10 +7,13 @@ use Rattle.oryx.proofs.tables.data_key.Goals as goal
 
 pub loop-init : goal.loop-init
 unfolding times
-loop-init c = refl
+loop-init c = (refl, refl)
 
 pub loop-preserved : goal.loop-preserved
-loop-preserved c = times_more _ _ _ _ _ c.loop.invariant c.hash_round-s.ensures
+loop-preserved c = (
+  cc,
+  times_more _ _ _ _ _ c.loop.invariant.1 (rw c.loop.invariant.0 at c.hash_round.ensures.registers),
+)
 
 pub returns : goal.returns
 unfolding hash hash_start
@@ -20,5 +23,5 @@ returns c =
     let all : c.loop.counter ≡ 32 = omega arith in
     let t = c.hash_table-k.ensures.table in
     let k = c.hash_table-k.ensures.k in
-    let s : c.loop.s ≡ times 32 (hash_round (hash_table (bit_xor a b))) (hash_start a b) = cc in
+    let s : c.loop.stream.registers ≡ times 32 (hash_round (hash_table (bit_xor a b))) (hash_start a b) = cc in
     ap joined s

@@ -1,15 +1,7 @@
-use Rattle.std.proofs.Common.{sym, subst}
-use Rattle.oryx.specs.declared.call.OryxCall.{OryxCall}
-use Rattle.oryx.specs.Laws.{EachOnce, StartsApart}
 use Rattle.oryx.proofs.Once.{table_each_once}
 use Rattle.oryx.proofs.Apart.{starts_apart}
+use Rattle.std.proofs.Common.{refl}
 use Rattle.oryx.proofs.call.OryxCall.new.Goals as goal
 
 pub returns : goal.returns
-returns c =
-    let is = sym c.derive.ensures in
-    record {
-      result = c.derive.ensures;
-      each_once = subst (λ (r : OryxCall). EachOnce r.table) is (table_each_once c.args.rand);
-      starts_apart = subst StartsApart is (starts_apart c.args.ssd_b c.args.rand);
-    }
+returns c = rw (c.data_key.ensures, c.call_table.ensures) (record { result = refl; each_once = table_each_once _; starts_apart = starts_apart _ _ })

@@ -101,9 +101,10 @@ impl OryxCall {
         ensures each_once { EachOnce result.table }
         ensures starts_apart { StartsApart result }
     {
+        let table = call_table(rand);
         OryxCall {
             data_key: data_key(ssd_b),
-            table: call_table(rand),
+            table,
         }
     }
 }

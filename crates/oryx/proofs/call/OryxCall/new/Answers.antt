@@ -1,7 +1,10 @@
+use Rattle.std.proofs.Common.{arith}
 use Rattle.oryx.proofs.Once.{table_each_once}
 use Rattle.oryx.proofs.Apart.{starts_apart}
-use Rattle.std.proofs.Common.{refl}
 use Rattle.oryx.proofs.call.OryxCall.new.Goals as goal
 
-pub returns : goal.returns
-returns c = rw (c.data_key.ensures, c.call_table.ensures) (record { result = refl; each_once = table_each_once _; starts_apart = starts_apart _ _ })
+pub returns-clause-each_once : goal.returns-clause-each_once
+returns-clause-each_once c = grind (arith, table_each_once c.args.rand)
+
+pub returns-clause-starts_apart : goal.returns-clause-starts_apart
+returns-clause-starts_apart c = grind (arith, starts_apart c.args.ssd_b c.args.rand)

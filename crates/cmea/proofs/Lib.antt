@@ -1,2 +1,3 @@
 pub mod InPlace
 pub mod Laws
+pub mod Made

@@ -7,6 +7,7 @@ ghost use Rattle.cmea.specs.Ciphering.{answer_to, ciphered, TurnsLowestBit};
 use crate::key::CmeaKey;
 use cave::table::entry;
 use refusal::Refusal;
+use std::array;
 
 // One look-up of the substitution of z, under two bytes of the key.
 fn look_up(first: u8, second: u8, z: u8, r: u8) -> u8
@@ -30,10 +31,7 @@ impl CmeaKey {
     pub fn new(bytes: [u8; 8]) -> Self
         ensures { result.bytes ≡ bytes }
     {
-        let mut substitution = [0; 256];
-        for z in 0..256 {
-            substitution[z] = substitute(bytes, z as u8);
-        }
+        let substitution = array::from_fn(|z| substitute(bytes, z as u8));
         CmeaKey {
             bytes,
             substitution,
@@ -108,8 +106,8 @@ fn take_up(near: u8, far: u8) -> u8
 fn fold(message: &mut [u8])
     ensures { message.new ≡ second_pass message.old }
 {
-    let length = message.len();
-    for i in 0..length / 2 {
-        message[i] = take_up(message[i], message[length - 1 - i]);
+    let (front, back) = message.split_at_mut(message.len() / 2);
+    for (i, near) in front.iter_mut().enumerate() {
+        *near = take_up(*near, back[back.len() - 1 - i]);
     }
 }

@@ -1,8 +1,8 @@
 -- Different HOOKs look up different words, and K steps from different words to different ones, but for zero and its stand-in.
-use Rattle.std.proofs.Common.{◌≡◌, ℕ, ◌+◌, ◌*◌, ◌/◌, ◌%◌, ◌^◌, ◌<◌, List, get_or, sym, refl, ap, ◌∙◌, inl, inr, ⊎_elim, arith}
+use Rattle.std.proofs.Common.{◌≡◌, ℕ, ◌+◌, ◌*◌, ◌/◌, ◌%◌, ◌^◌, ◌<◌, List, get_or, sym, refl, ap, ◌∙◌, ⊎_elim, arith}
 use lib.Bits.{bit_xor, xor_comm, xor_shr, xor_zero_l}
 use Rattle.std.proofs.lemmas.Nat.{mod_below}
-use Rattle.std.proofs.lemmas.Bool.{cases_eq, eq-eqb, ne_eqb}
+use Rattle.std.proofs.lemmas.Bool.Decides.{nat_tests}
 use Rattle.oryx.specs.declared.call.OryxCall.{OryxCall}
 use Rattle.oryx.specs.Steps.{times, byte, right_step, non_zero, step_k}
 use Rattle.oryx.specs.Frames.{looked_up, word, start, call_of}
@@ -27,14 +27,10 @@ right_apart v w hv hw e =
     omega arith
 
 non_zero_below : (w : ℕ) → w < 2 ^ 32 → non_zero w < 2 ^ 32
-non_zero_below w h = ⊎_elim (λ (e : w ≡ 0). rw (eq-eqb w 0 e) (omega arith)) (λ (d : w ≡ 0 → ⊥). rw (ne_eqb w 0 d) h) (cases_eq w 0)
+non_zero_below w h = grind (arith, nat_tests)
 
 non_zero_apart : (v w : ℕ) → (ZeroAndItsStandIn v w → ⊥) → non_zero v ≡ non_zero w → v ≡ w
-non_zero_apart v w n =
-    ⊎_elim
-    (λ (p : v ≡ 0). ⊎_elim (λ (q : w ≡ 0). λ _. p ∙ sym q) (λ (q : w ≡ 0 → ⊥). rw (eq-eqb v 0 p, ne_eqb w 0 q) (λ e. absurd (n (inl (p, sym e))))) (cases_eq w 0))
-    (λ (p : v ≡ 0 → ⊥). ⊎_elim (λ (q : w ≡ 0). rw (ne_eqb v 0 p, eq-eqb w 0 q) (λ e. absurd (n (inr (e, q))))) (λ (q : w ≡ 0 → ⊥). rw (ne_eqb v 0 p, ne_eqb w 0 q) (λ e. e)) (cases_eq w 0))
-    (cases_eq v 0)
+non_zero_apart v w n e = grind (arith, nat_tests)
 
 step_k_apart : (v w : ℕ) → v < 2 ^ 32 → w < 2 ^ 32 → (ZeroAndItsStandIn v w → ⊥) → step_k v ≡ step_k w → v ≡ w
 step_k_apart v w hv hw n e = non_zero_apart v w n (right_apart (non_zero v) (non_zero w) (non_zero_below v hv) (non_zero_below w hw) e)

@@ -25,6 +25,7 @@ fn call_table(rand: u32) -> [u8; 256]
 {
     let mut table = ascending();
     let mut k = rand;
+    // By index: `swap` takes two.
     for i in 0..256 {
         k = step_k(k);
         table.swap(i, high_byte(k) as usize);

@@ -1,5 +1,5 @@
 // Making a key, and ciphering under it.
-ghost use Rattle.std.specs.Prelude.{◌≡◌, ◌≤◌, length, bit_or, bit_xor};
+ghost use Rattle.std.specs.Prelude.{◌≡◌, ◌≤◌, length};
 ghost use Rattle.cmea.specs.Substitution.{stage, tbox};
 ghost use Rattle.cmea.specs.Passes.{drawn, first_pass, second_pass, third_pass};
 ghost use Rattle.cmea.specs.Ciphering.{answer_to, ciphered, TurnsLowestBit};
@@ -52,7 +52,8 @@ impl CmeaKey {
         self.at(z ^ (i % 256) as u8)
     }
 
-    // The first pass.
+    // The first pass. It and the third stay two loops: one over a closure, which would give the new byte and the byte to be summed,
+    // is longer than both.
     fn raise(&self, message: &mut [u8])
         ensures { message.new ≡ first_pass (tbox self.now.bytes) 0 0 message.old }
     {
@@ -69,9 +70,9 @@ impl CmeaKey {
     {
         let mut z: u8 = 0;
         for (i, byte) in message.iter_mut().enumerate() {
-            let old = *byte;
-            *byte = old.wrapping_sub(self.draw(i, z));
-            z = z.wrapping_add(old);
+            let raised = *byte;
+            *byte = raised.wrapping_sub(self.draw(i, z));
+            z = z.wrapping_add(raised);
         }
     }
 
@@ -95,19 +96,12 @@ impl CmeaKey {
     }
 }
 
-// A byte of the first half, with the byte as far from the end taken up.
-fn take_up(near: u8, far: u8) -> u8
-    ensures { result ≡ bit_xor near (bit_or far 1) }
-{
-    near ^ (far | 1)
-}
-
-// The second pass.
+// The second pass: a byte of the first half takes up the byte as far from the end, with its lowest bit set.
 fn fold(message: &mut [u8])
     ensures { message.new ≡ second_pass message.old }
 {
     let (front, back) = message.split_at_mut(message.len() / 2);
     for (i, near) in front.iter_mut().enumerate() {
-        *near = take_up(*near, back[back.len() - 1 - i]);
+        *near ^= back[back.len() - 1 - i] | 1;
     }
 }

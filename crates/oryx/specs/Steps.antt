@@ -33,7 +33,7 @@ step_k k = right_step 0xC672B008 (non_zero k)
 
 -- one step of A: the top bit of K chooses its feedback
 abbrev pub step_a : ℕ → ℕ → ℕ
-step_a k a = left_step (if k / 2 ^ 31 == 1 then 0x04C11DB7 else 0x0FC22F87) a
+step_a k a = if k / 2 ^ 31 == 1 then left_step 0x04C11DB7 a else left_step 0x0FC22F87 a
 
 -- one step of B
 abbrev pub step_b : ℕ → ℕ

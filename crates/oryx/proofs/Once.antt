@@ -1,12 +1,12 @@
 -- The table of a call is the numbers 0 to 255, shuffled, so it holds each once.
-use Rattle.std.proofs.Common.{◌≡◌, ℕ, zero, suc, ◌+◌, ◌<◌, ◌≤◌, cond, eqb, List, ◌∷◌, length, get_or, take, count_by, refl, ap, ◌∙◌, arith}
-use Rattle.std.specs.List.{range_with_len, swap, All}
+use Rattle.std.proofs.Common.{◌≡◌, ℕ, zero, suc, ◌+◌, ◌<◌, ◌≤◌, cond, eqb, List, length, get_or, take, count_by, refl, ◌∙◌, arith}
+use Rattle.std.specs.List.{range_with_len}
 use Rattle.std.specs.List.Sorted.{IsPermutation}
 use Rattle.std.proofs.lemmas.Grind.{common_steps}
 use Rattle.std.proofs.lemmas.List.FromFn.{length-range_with_len, get_or-range_with_len}
 use Rattle.std.proofs.lemmas.List.Elements.{All-get_or, All-from_get_or}
 use Rattle.std.proofs.lemmas.List.{length-take-le}
-use Rattle.std.proofs.lemmas.List.Sorted.{IsPermutation-refl, All-permutation, length_permutation, sum_by-IsPermutation}
+use Rattle.std.proofs.lemmas.List.Sorted.{IsPermutation-refl, IsPermutation-swap, IsPermutation-trans, All-permutation, length_permutation, sum_by-IsPermutation}
 use Rattle.std.proofs.lemmas.List.Sums.{sum_by-take-le, get_or-le-sum_by, count_by_more_yes}
 use Rattle.std.proofs.lemmas.Bool.{eq-eqb}
 use Rattle.oryx.specs.Steps.{times, high, step_k}
@@ -18,12 +18,8 @@ unfolding exchanges
 exchanges_shuffled zero k h = IsPermutation-refl (range_with_len 0 256)
 exchanges_shuffled (suc n) k h =
     let before = exchanges_shuffled n k (omega arith) in
-    let at : ℕ = high (times (suc n) step_k k) in
-    record {
-      moves = (n, at) ∷ before.moves;
-      below = (h, omega arith, before.below);
-      is = ap (λ (l : List ℕ). swap l n at) before.is;
-    }
+    let long = length_permutation _ _ before ∙ length-range_with_len 0 256 in
+    IsPermutation-trans _ _ _ before (IsPermutation-swap _ _ n (high (times (suc n) step_k k)) (omega arith) (omega arith) refl)
 
 table_shuffled : (rand : ℕ) → IsPermutation (range_with_len 0 256) (call_table rand)
 table_shuffled rand = exchanges_shuffled 256 rand (omega arith)
@@ -47,8 +43,9 @@ table_each_once rand =
 -- every entry is a byte
 pub table_bytes : (rand i : ℕ) → i < 256 → get_or (call_table rand) i 0 < 256
 table_bytes rand i h =
-    let start : All (λ (x : ℕ). x < 256) (range_with_len 0 256) = All-from_get_or (λ (x : ℕ). x < 256) (range_with_len 0 256) 0 (λ j l. omega (arith, get_or-range_with_len 0 256 j 0 l)) in
-    All-get_or (λ (x : ℕ). x < 256) (call_table rand) i 0 (omega (arith, (table_each_once rand).long)) (All-permutation (λ (x : ℕ). x < 256) _ _ (table_shuffled rand) start)
+    let is_byte : ℕ → Type 0 = λ x. x < 256 in
+    let all = All-from_get_or is_byte (range_with_len 0 256) 0 (λ j l. omega (arith, get_or-range_with_len 0 256 j 0 l)) in
+    All-get_or is_byte (call_table rand) i 0 (omega (arith, (table_each_once rand).long)) (All-permutation is_byte _ _ (table_shuffled rand) all)
 
 -- what stands at two places is counted twice
 twice : (xs : List ℕ) (v i j : ℕ) → i < j → j < length xs → v ≡ get_or xs i 0 → v ≡ get_or xs j 0 → 2 ≤ count_by (eqb v) xs

@@ -52,8 +52,7 @@ impl CmeaKey {
         self.at(z ^ (i % 256) as u8)
     }
 
-    // The first pass. It and the third stay two loops: one over a closure, which would give the new byte and the byte to be summed,
-    // is longer than both.
+    // The first pass. It stays apart from the third: one loop for both, over a closure that gives two bytes, is longer.
     fn raise(&self, message: &mut [u8])
         ensures { message.new ≡ first_pass (tbox self.now.bytes) 0 0 message.old }
     {

@@ -1,9 +1,11 @@
 -- The laws of CMEA. The first and the third pass undo each other, and the second undoes itself.
-use Rattle.std.proofs.Common.{◌≡◌, ℕ, zero, suc, ◌+◌, ◌-◌, ◌/◌, ◌%◌, ◌<◌, ◌≤◌, List, [], ◌∷◌, length, get_or, refl, ap, ◌∙◌, ap₂, ⊎_elim, not-suc-le-zero, arith}
-use lib.Bits.{bit_xor, bit_or, xor_assoc, xor_self, xor_zero_r, xor_lt, or_lt, xor_add_and, or_add_and, and_mask}
+use Rattle.std.proofs.Common.{◌≡◌, ℕ, zero, suc, ◌+◌, ◌-◌, ◌%◌, ◌<◌, ◌≤◌, List, [], ◌∷◌, length, get_or, refl, ap, ◌∙◌, ap₂, arith}
+use lib.Bits.{bit_xor, bit_or, xor_assoc, xor_self, xor_zero_r, xor_add_and, or_add_and, and_mask}
 use Rattle.std.proofs.lemmas.List.FromFn.{length-map-range_with_len, get_or-map-range_with_len}
 use Rattle.std.proofs.lemmas.List.{ext_get_or, get_or_past}
-use Rattle.std.proofs.lemmas.Bool.{cases_lt, lt-ltb, le-ltb, cond-true, cond-false}
+use Rattle.std.proofs.lemmas.Grind.{common_steps}
+use Rattle.std.proofs.lemmas.Nat.{xor_of_8, or_of_8}
+use Rattle.std.proofs.lemmas.Bool.Decides.{nat_tests}
 use Rattle.cmea.specs.Substitution.{tbox}
 use Rattle.cmea.specs.Passes.{raised, lowered, folded, first_pass, second_pass, third_pass}
 use Rattle.cmea.specs.Ciphering.{image, ciphered, TurnsLowestBit}
@@ -20,17 +22,17 @@ tbox_bytes : (key : List ℕ) → GivesBytes (tbox key)
 unfolding tbox
 tbox_bytes key z = omega arith
 
+first_length : (t : ℕ → ℕ) (xs : List ℕ) (i z : ℕ) → length (first_pass t i z xs) ≡ length xs
+unfolding first_pass
+first_length t [] i z = refl
+first_length t (x ∷ xs) i z = ap suc (first_length t xs _ _)
+
+third_length : (t : ℕ → ℕ) (xs : List ℕ) (i z : ℕ) → length (third_pass t i z xs) ≡ length xs
+unfolding third_pass
+third_length t [] i z = refl
+third_length t (x ∷ xs) i z = ap suc (third_length t xs _ _)
+
 module _ (t : ℕ → ℕ) (b : GivesBytes t) where
-  first_length : (xs : List ℕ) (i z : ℕ) → length (first_pass t i z xs) ≡ length xs
-  unfolding first_pass
-  first_length [] i z = refl
-  first_length (x ∷ xs) i z = ap suc (first_length xs _ _)
-
-  third_length : (xs : List ℕ) (i z : ℕ) → length (third_pass t i z xs) ≡ length xs
-  unfolding third_pass
-  third_length [] i z = refl
-  third_length (x ∷ xs) i z = ap suc (third_length xs _ _)
-
   first_bytes : (xs : List ℕ) (i z : ℕ) → Bytes (first_pass t i z xs)
   unfolding first_pass
   first_bytes [] i z k = omega arith
@@ -62,42 +64,19 @@ second_at : (xs : List ℕ) (k : ℕ) → k < length xs → get_or (second_pass 
 unfolding second_pass
 second_at xs k h = get_or-map-range_with_len (folded xs) 0 (length xs) k k 0 h (omega arith)
 
-module _ (xs : List ℕ) (k : ℕ) where
-  folded_near : k < length xs / 2 → folded xs k ≡ bit_xor (get_or xs k 0) (bit_or (get_or xs (length xs - 1 - k) 0) 1)
-  folded_near h = cond-true _ _ _ (lt-ltb k (length xs / 2) h)
-
-  folded_far : length xs / 2 ≤ k → folded xs k ≡ get_or xs k 0
-  folded_far h = cond-false _ _ _ (le-ltb k (length xs / 2) h)
-
 second_bytes : (xs : List ℕ) → Bytes xs → Bytes (second_pass xs)
-second_bytes xs h k =
-    ⊎_elim
-    (λ (l : k < length xs). rw (second_at xs k l) (⊎_elim
-    (λ (near : k < length xs / 2). rw (folded_near xs k near) (xor_lt 8 _ _ (h k) (or_lt 8 _ 1 (h (length xs - 1 - k)) (omega arith))))
-    (λ (far : length xs / 2 ≤ k). rw (folded_far xs k far) (h k))
-    (cases_lt k (length xs / 2))))
-    (λ (past : length xs ≤ k). rw (get_or_past (second_pass xs) k 0 (omega (arith, second_length xs))) (omega arith))
-    (cases_lt k (length xs))
-
-xor_twice : (a b : ℕ) → bit_xor (bit_xor a b) b ≡ a
-xor_twice a b = xor_assoc a b b ∙ ap (bit_xor a) (xor_self b) ∙ xor_zero_r a
+second_bytes xs h k = grind (arith, common_steps, nat_tests, second_length xs, second_at xs k, h k, h (length xs - 1 - k), xor_of_8, or_of_8, get_or_past (second_pass xs) k 0)
 
 second_twice : (xs : List ℕ) → second_pass (second_pass xs) ≡ xs
 second_twice xs =
-    let ys = second_pass xs in
     let n = second_length xs in
-    ext_get_or 0 _ _ (second_length ys ∙ n) (λ k l.
-    let within : k < length xs = omega (arith, second_length ys, n) in
-    second_at ys k (omega arith) ∙ ⊎_elim
-    (λ (near : k < length xs / 2).
-    let far : get_or ys (length ys - 1 - k) 0 ≡ get_or xs (length xs - 1 - k) 0 = ap (λ (m : ℕ). get_or ys (m - 1 - k) 0) n ∙ second_at xs (length xs - 1 - k) (omega arith) ∙ folded_far xs (length xs - 1 - k) (omega arith) in
-    folded_near ys k (omega arith) ∙ ap₂ (λ (a c : ℕ). bit_xor a (bit_or c 1)) (second_at xs k within ∙ folded_near xs k near) far ∙ xor_twice _ _)
-    (λ (far : length xs / 2 ≤ k). folded_far ys k (omega arith) ∙ second_at xs k within ∙ folded_far xs k far)
-    (cases_lt k (length xs / 2)))
+    let nn = second_length (second_pass xs) in
+    ext_get_or 0 _ _ (nn ∙ n) (λ k l.
+    grind (arith, nat_tests, second_at (second_pass xs) k, second_at xs k, second_at xs (length xs - 1 - k), xor_assoc, xor_self, xor_zero_r))
 
 pub image_length : (key xs : List ℕ) → length (image key xs) ≡ length xs
 unfolding image
-image_length key xs = third_length (tbox key) (tbox_bytes key) _ 0 0 ∙ second_length _ ∙ first_length (tbox key) (tbox_bytes key) xs 0 0
+image_length key xs = third_length _ _ 0 0 ∙ second_length _ ∙ first_length _ xs 0 0
 
 pub image_twice : (key xs : List ℕ) → Bytes xs → image key (image key xs) ≡ xs
 unfolding image
@@ -115,45 +94,27 @@ odd_turns a c = let p = xor_add_and a (bit_or c 1) in let q = or_add_and c 1 in 
 
 first_head : (t : ℕ → ℕ) (xs : List ℕ) → 0 < length xs → get_or (first_pass t 0 0 xs) 0 0 ≡ (get_or xs 0 0 + t 0) % 256
 unfolding first_pass
-first_head t [] h = absurd (not-suc-le-zero h)
+first_head t [] h = absurd (omega arith)
 first_head t (x ∷ xs) h = refl
 
 third_head : (t : ℕ → ℕ) (ys : List ℕ) → 0 < length ys → get_or (third_pass t 0 0 ys) 0 0 ≡ (get_or ys 0 0 + (256 - t 0)) % 256
 unfolding third_pass
-third_head t [] h = absurd (not-suc-le-zero h)
+third_head t [] h = absurd (omega arith)
 third_head t (y ∷ ys) h = refl
 
-pub image_turns : (key xs : List ℕ) → 2 ≤ length xs → TurnsLowestBit xs (image key xs)
+image_turns : (key xs : List ℕ) → 2 ≤ length xs → TurnsLowestBit xs (image key xs)
 unfolding image
 image_turns key xs h =
     let t = tbox key in
-    let b = tbox_bytes key 0 in
     let m = first_pass t 0 0 xs in
-    let lm = first_length t (tbox_bytes key) xs 0 0 in
-    let ls = second_length m in
-    let p = first_head t xs (omega arith) in
-    let q = second_at m 0 (omega arith) ∙ folded_near m 0 (omega arith) in
-    let f = odd_turns (get_or m 0 0) (get_or m (length m - 1 - 0) 0) in
-    let r = third_head t (second_pass m) (omega arith) in
-    omega arith
+    grind (arith, nat_tests, tbox_bytes key 0, first_length t xs 0 0, second_length m, first_head t xs, second_at m 0, odd_turns (get_or m 0 0) (get_or m (length m - 1 - 0) 0), third_head t (second_pass m))
 
 -- the same of a call, which leaves a message of under two bytes as it was
-pub ciphered_image : (key xs : List ℕ) → 2 ≤ length xs → ciphered key xs ≡ image key xs
-ciphered_image key xs h = cond-false _ _ _ (le-ltb (length xs) 2 h)
-
-ciphered_same : (key xs : List ℕ) → length xs < 2 → ciphered key xs ≡ xs
-ciphered_same key xs h = cond-true _ _ _ (lt-ltb (length xs) 2 h)
-
 pub ciphered_length : (key xs : List ℕ) → length (ciphered key xs) ≡ length xs
-ciphered_length key xs =
-    ⊎_elim
-    (λ (short : length xs < 2). ap length (ciphered_same key xs short))
-    (λ (long : 2 ≤ length xs). ap length (ciphered_image key xs long) ∙ image_length key xs)
-    (cases_lt (length xs) 2)
+ciphered_length key xs = grind (arith, nat_tests, image_length key xs)
 
 pub ciphered_twice : (key xs : List ℕ) → Bytes xs → ciphered key (ciphered key xs) ≡ xs
-ciphered_twice key xs h =
-    ⊎_elim
-    (λ (short : length xs < 2). ap (ciphered key) (ciphered_same key xs short) ∙ ciphered_same key xs short)
-    (λ (long : 2 ≤ length xs). ap (ciphered key) (ciphered_image key xs long) ∙ ciphered_image key (image key xs) (omega (arith, image_length key xs)) ∙ image_twice key xs h)
-    (cases_lt (length xs) 2)
+ciphered_twice key xs h = grind (arith, nat_tests, image_length key xs, image_twice key xs h)
+
+pub ciphered_turns : (key xs : List ℕ) → 2 ≤ length xs → TurnsLowestBit xs (ciphered key xs)
+ciphered_turns key xs h = grind (arith, nat_tests, image_turns key xs h)

@@ -1,5 +1,5 @@
 -- What ciphering a message answers, and what it leaves of the message.
-use Rattle.std.specs.Prelude.{◌≡◌, ℕ, ◌+◌, ◌%◌, cond, List, length, Ok, Err, Result, nat_lt, slice_index}
+use Rattle.std.specs.Prelude.{◌≡◌, ℕ, ◌+◌, ◌%◌, if◌then◌else◌, List, length, Ok, Err, Result, nat_lt, slice_index}
 use Rattle.refusal.specs.declared.Refusal.{Refusal}
 use Rattle.refusal.specs.declared.Refusal.TheVariants.{WrongLength}
 use Rattle.cmea.specs.Substitution.{tbox}
@@ -11,11 +11,11 @@ image key xs = third_pass (tbox key) 0 0 (second_pass (first_pass (tbox key) 0 0
 
 -- the answer to a message: one under two bytes is refused with its length, and no layer lies above
 abbrev pub answer_to : List ℕ → Result (Unit {0}) Refusal
-answer_to xs = cond (nat_lt (length xs) 2) (Err (WrongLength (length xs) 0)) (Ok tt)
+answer_to xs = if nat_lt (length xs) 2 then Err (WrongLength (length xs) 0) else Ok tt
 
 -- the message afterwards: its image, or where it is refused the message as it was
 abbrev pub ciphered : List ℕ → List ℕ → List ℕ
-ciphered key xs = cond (nat_lt (length xs) 2) xs (image key xs)
+ciphered key xs = if nat_lt (length xs) 2 then xs else image key xs
 
 -- the lowest bit of the first byte is turned over
 abbrev pub TurnsLowestBit : List ℕ → List ℕ → Type 0

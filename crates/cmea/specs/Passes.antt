@@ -1,5 +1,5 @@
 -- The three passes of CMEA over a message, under any substitution t. Sums are modulo 256.
-use Rattle.std.specs.Prelude.{ℕ, ◌+◌, ◌-◌, ◌/◌, ◌%◌, cond, List, [], ◌∷◌, map, length, bit_or, bit_xor, nat_lt, slice_index}
+use Rattle.std.specs.Prelude.{ℕ, ◌+◌, ◌-◌, ◌/◌, ◌%◌, if◌then◌else◌, List, [], ◌∷◌, map, length, bit_or, bit_xor, nat_lt, slice_index}
 use Rattle.std.specs.List.{range_with_len}
 
 -- the substitution drawn for byte i, where z is the running sum: the index enters modulo 256
@@ -21,7 +21,7 @@ first_pass t i z (x ∷ xs) = raised t i z x ∷ first_pass t (i + 1) ((z + rais
 
 -- byte i after the second pass: one of the first half takes up the byte as far from the end, with its lowest bit set
 abbrev pub folded : List ℕ → ℕ → ℕ
-folded xs i = cond (nat_lt i (length xs / 2)) (bit_xor (slice_index xs i) (bit_or (slice_index xs (length xs - 1 - i)) 1)) (slice_index xs i)
+folded xs i = if nat_lt i (length xs / 2) then bit_xor (slice_index xs i) (bit_or (slice_index xs (length xs - 1 - i)) 1) else slice_index xs i
 
 -- the second pass
 unfoldable pub second_pass : List ℕ → List ℕ

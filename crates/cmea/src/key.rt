@@ -4,7 +4,7 @@ ghost use Rattle.cmea.specs.Substitution.{tbox};
 
 mod cipher;
 
-#[derive(Clone, Copy)]
+#[derive(Clone, Copy, PartialEq, Eq, Debug)]
 pub struct CmeaKey {
     bytes: [u8; 8],
     substitution: [u8; 256],

@@ -5,16 +5,13 @@
 mod tests {
     use cmea::key::CmeaKey;
     use refusal::Refusal;
+    use std::array;
 
     // The CMEA key of the standard's own example.
     const KEY: [u8; 8] = [0xa0, 0x7b, 0x1c, 0xd1, 0x02, 0x75, 0x69, 0x14];
 
     fn plain() -> [u8; 600] {
-        let mut bytes = [0; 600];
-        for i in 0..600 {
-            bytes[i] = (i * 7 % 251) as u8;
-        }
-        bytes
+        array::from_fn(|i| (i * 7 % 251) as u8)
     }
 
     // Ciphers the first bytes of a message.

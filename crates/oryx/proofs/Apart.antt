@@ -1,8 +1,8 @@
 -- Different HOOKs look up different words, and K steps from different words to different ones, but for zero and its stand-in.
-use Rattle.std.proofs.Common.{◌≡◌, ℕ, ◌+◌, ◌*◌, ◌/◌, ◌%◌, ◌^◌, ◌<◌, List, get_or, sym, refl, ap, ◌∙◌, inl, inr, ⊎_elim, arith}
-use lib.Bits.{bit_xor, xor_comm, xor_shr, xor_zero_l}
-use Rattle.std.proofs.lemmas.Nat.{mod_below}
-use Rattle.std.proofs.lemmas.Bool.{cases_eq, eq-eqb, ne_eqb}
+use Rattle.std.proofs.Common.{◌≡◌, ℕ, ◌+◌, ◌*◌, ◌/◌, ◌%◌, ◌^◌, ◌<◌, List, get_or, sym, ap, ◌∙◌, arith}
+use Rattle.std.proofs.lemmas.Grind.{common_steps}
+use lib.Bits.{bit_xor, xor_comm, xor_shr}
+use Rattle.std.proofs.lemmas.Bool.Decides.{nat_tests}
 use Rattle.oryx.specs.declared.call.OryxCall.{OryxCall}
 use Rattle.oryx.specs.Steps.{times, byte, right_step, non_zero, step_k}
 use Rattle.oryx.specs.Frames.{looked_up, word, start, call_of}
@@ -15,10 +15,7 @@ xor_cancel c a b e = sym (xor_twice a c) ∙ ap (λ (x : ℕ). bit_xor x c) e �
 
 -- the top bit after a step to the right is the bit that left
 top_bit : (w : ℕ) → w < 2 ^ 32 → right_step 0xC672B008 w / 2 ^ 31 ≡ w % 2
-top_bit w h =
-    let a : w / 2 / 2 ^ 31 ≡ 0 = omega arith in
-    let b : w % 2 * 0xC672B008 / 2 ^ 31 ≡ w % 2 = omega arith in
-    xor_shr (w / 2) (w % 2 * 0xC672B008) 31 ∙ rw (a, b) (xor_zero_l (w % 2))
+top_bit w h = grind (arith, common_steps, xor_shr (w / 2) (w % 2 * 0xC672B008) 31)
 
 right_apart : (v w : ℕ) → v < 2 ^ 32 → w < 2 ^ 32 → right_step 0xC672B008 v ≡ right_step 0xC672B008 w → v ≡ w
 right_apart v w hv hw e =
@@ -27,25 +24,13 @@ right_apart v w hv hw e =
     omega arith
 
 non_zero_below : (w : ℕ) → w < 2 ^ 32 → non_zero w < 2 ^ 32
-non_zero_below w h = ⊎_elim (λ (e : w ≡ 0). rw (eq-eqb w 0 e) (omega arith)) (λ (d : w ≡ 0 → ⊥). rw (ne_eqb w 0 d) h) (cases_eq w 0)
+non_zero_below w h = grind (arith, nat_tests)
 
 non_zero_apart : (v w : ℕ) → (ZeroAndItsStandIn v w → ⊥) → non_zero v ≡ non_zero w → v ≡ w
-non_zero_apart v w n =
-    ⊎_elim
-    (λ (p : v ≡ 0). ⊎_elim (λ (q : w ≡ 0). λ _. p ∙ sym q) (λ (q : w ≡ 0 → ⊥). rw (eq-eqb v 0 p, ne_eqb w 0 q) (λ e. absurd (n (inl (p, sym e))))) (cases_eq w 0))
-    (λ (p : v ≡ 0 → ⊥). ⊎_elim (λ (q : w ≡ 0). rw (ne_eqb v 0 p, eq-eqb w 0 q) (λ e. absurd (n (inr (e, q))))) (λ (q : w ≡ 0 → ⊥). rw (ne_eqb v 0 p, ne_eqb w 0 q) (λ e. e)) (cases_eq w 0))
-    (cases_eq v 0)
+non_zero_apart v w n e = grind (arith, nat_tests)
 
 step_k_apart : (v w : ℕ) → v < 2 ^ 32 → w < 2 ^ 32 → (ZeroAndItsStandIn v w → ⊥) → step_k v ≡ step_k w → v ≡ w
 step_k_apart v w hv hw n e = non_zero_apart v w n (right_apart (non_zero v) (non_zero w) (non_zero_below v hv) (non_zero_below w hw) e)
-
--- a word by its bytes
-module _ (a b c d : ℕ) (ha : a < 256) (hb : b < 256) (hc : c < 256) (hd : d < 256) where
-  joined_below : a * 2 ^ 24 + b * 2 ^ 16 + c * 2 ^ 8 + d < 2 ^ 32
-  joined_below = omega arith
-
-  joined_bytes : (w : ℕ) → w ≡ a * 2 ^ 24 + b * 2 ^ 16 + c * 2 ^ 8 + d → (w / 2 ^ 24 ≡ a) × (w / 2 ^ 16 % 256 ≡ b) × (w / 2 ^ 8 % 256 ≡ c) × (w % 256 ≡ d)
-  joined_bytes w e = (omega arith, omega arith, omega arith, omega arith)
 
 same_bytes : (h h' : ℕ) → h < 2 ^ 32 → h' < 2 ^ 32 → byte 24 h ≡ byte 24 h' → byte 16 h ≡ byte 16 h' → byte 8 h ≡ byte 8 h' → h % 256 ≡ h' % 256 → h ≡ h'
 same_bytes h h' b b' e3 e2 e1 e0 = omega arith
@@ -53,30 +38,22 @@ same_bytes h h' b b' e3 e2 e1 e0 = omega arith
 sum_apart : (x y c d : ℕ) → x < 256 → y < 256 → c ≡ d → (x + c) % 256 ≡ (y + d) % 256 → x ≡ y
 sum_apart x y c d hx hy e s = omega arith
 
-below : (n : ℕ) → n % 256 < 256
-below n = mod_below n 256 (omega arith)
-
 module _ (table : List ℕ) (each : EachOnce table) (bytes : (i : ℕ) → i < 256 → get_or table i 0 < 256) where
   word_below : (h : ℕ) → word table h < 2 ^ 32
-  word_below h = joined_below _ _ _ _ (bytes _ (below _)) (bytes _ (below _)) (bytes _ (below _)) (bytes _ (below _))
-
-  word_bytes : (h w : ℕ) → w ≡ word table h → (w / 2 ^ 24 ≡ looked_up table 24 h) × (w / 2 ^ 16 % 256 ≡ looked_up table 16 h) × (w / 2 ^ 8 % 256 ≡ looked_up table 8 h) × (w % 256 ≡ get_or table (h % 256) 0)
-  word_bytes h w e = joined_bytes _ _ _ _ (bytes _ (below _)) (bytes _ (below _)) (bytes _ (below _)) (bytes _ (below _)) w e
+  word_below h = grind (arith, bytes)
 
   one_place : (i j : ℕ) → get_or table (i % 256) 0 ≡ get_or table (j % 256) 0 → i % 256 ≡ j % 256
-  one_place i j e = alone table each (i % 256) (j % 256) (below i) (below j) (bytes (i % 256) (below i)) e
+  one_place i j e = alone table each (i % 256) (j % 256) (omega arith) (omega arith) (bytes _ (omega arith)) e
 
   word_apart : (h h' : ℕ) → h < 2 ^ 32 → h' < 2 ^ 32 → word table h ≡ word table h' → h ≡ h'
   word_apart h h' b b' e =
-      let u = word_bytes h (word table h) refl in
-      let v = word_bytes h' (word table h) e in
-      let low : h % 256 ≡ h' % 256 = one_place h h' (sym u.3 ∙ v.3) in
+      let low : h % 256 ≡ h' % 256 = one_place h h' (grind (arith, bytes)) in
       let part : (n : ℕ) → looked_up table n h ≡ looked_up table n h' → byte n h ≡ byte n h' = λ n q.
-      sum_apart (byte n h) (byte n h') (h % 256) (h' % 256) (below (h / 2 ^ n)) (below (h' / 2 ^ n)) low (one_place (byte n h + h % 256) (byte n h' + h' % 256) q) in
-      same_bytes h h' b b' (part 24 (sym u.0 ∙ v.0)) (part 16 (sym u.1 ∙ v.1)) (part 8 (sym u.2 ∙ v.2)) low
+      sum_apart (byte n h) (byte n h') (h % 256) (h' % 256) (omega arith) (omega arith) low (one_place (byte n h + h % 256) (byte n h' + h' % 256) q) in
+      same_bytes h h' b b' (part 24 (grind (arith, bytes))) (part 16 (grind (arith, bytes))) (part 8 (grind (arith, bytes))) low
 
 step_k_alike : (v w : ℕ) → ZeroAndItsStandIn v w → step_k v ≡ step_k w
-step_k_alike v w = ⊎_elim (λ p. rw (p.0, p.1) refl) (λ p. rw (p.0, p.1) refl)
+step_k_alike v w p = grind (arith, nat_tests)
 
 pub starts_apart : (ssd_b rand : ℕ) → StartsApart (call_of ssd_b rand)
 unfolding start times

@@ -1,8 +1,9 @@
 -- A mask XORed on twice is gone, and onto zeros it is the mask itself.
 use Rattle.std.proofs.Common.{◌≡◌, ℕ, ◌<◌, List, length, get_or, replicate, ap, ◌∙◌, arith}
-use lib.Bits.{bit_xor, xor_assoc, xor_self, xor_zero_l, xor_zero_r}
+use Rattle.std.proofs.lemmas.Grind.{common_steps}
+use lib.Bits.{bit_xor, xor_assoc, xor_self, xor_zero_r}
 use Rattle.std.proofs.lemmas.List.FromFn.{length-map-range_with_len, get_or-map-range_with_len, fill_by_all}
-use Rattle.std.proofs.lemmas.List.{ext_get_or, get_or-replicate, length-replicate}
+use Rattle.std.proofs.lemmas.List.{ext_get_or, length-replicate}
 use Rattle.oryx.specs.declared.call.OryxCall.{OryxCall}
 use Rattle.oryx.specs.Frames.{mask_byte, mask, masked_byte, masked}
 
@@ -21,14 +22,11 @@ module _ (call : OryxCall) (hook : ℕ) where
   pub masked_twice : (body : List ℕ) → masked call hook (masked call hook body) ≡ body
   masked_twice body =
       let long = masked_length body in
-      ext_get_or 0 _ _ (masked_length (masked call hook body) ∙ long) (λ k h.
-      let within : k < length body = omega (arith, long, masked_length (masked call hook body)) in
-      masked_at (masked call hook body) k (omega arith) ∙ ap (λ (x : ℕ). bit_xor x (mask_byte call hook k)) (masked_at body k within) ∙ xor_twice _ _)
+      let again = masked_length (masked call hook body) in
+      ext_get_or 0 _ _ (again ∙ long) (λ k h. grind (arith, common_steps, masked_at, xor_twice))
 
   pub masked_zeros : (n : ℕ) → masked call hook (replicate n 0) ≡ mask call hook n
   unfolding mask
   masked_zeros n =
-      let zeros : List ℕ = replicate n 0 in
-      let long : length zeros ≡ n = length-replicate {A = ℕ} n 0 in
-      fill_by_all (mask_byte call hook) (masked call hook zeros) n 0 (masked_length zeros ∙ long) (λ k h.
-      masked_at zeros k (omega (arith, long)) ∙ ap (λ (x : ℕ). bit_xor x (mask_byte call hook k)) (get_or-replicate n k 0 0 h) ∙ xor_zero_l _)
+      let long = masked_length (replicate n 0) ∙ length-replicate {A = ℕ} n 0 in
+      fill_by_all (mask_byte call hook) _ n 0 long (λ k h. grind (arith, common_steps, masked_at (replicate n 0) k))

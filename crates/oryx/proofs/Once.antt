@@ -1,13 +1,14 @@
 -- The table of a call is the numbers 0 to 255, shuffled, so it holds each once.
-use Rattle.std.proofs.Common.{◌≡◌, ℕ, zero, suc, ◌+◌, ◌<◌, ◌≤◌, cond, eqb, List, ◌∷◌, length, get_or, take, count_by, refl, ap, ◌∙◌, ⊎_elim, arith}
-use Rattle.std.specs.List.{range_with_len, swap, All}
+use Rattle.std.proofs.Common.{◌≡◌, ℕ, zero, suc, ◌+◌, ◌<◌, ◌≤◌, cond, eqb, List, length, get_or, take, count_by, refl, ◌∙◌, arith}
+use Rattle.std.specs.List.{range_with_len}
 use Rattle.std.specs.List.Sorted.{IsPermutation}
+use Rattle.std.proofs.lemmas.Grind.{common_steps}
 use Rattle.std.proofs.lemmas.List.FromFn.{length-range_with_len, get_or-range_with_len}
 use Rattle.std.proofs.lemmas.List.Elements.{All-get_or, All-from_get_or}
-use Rattle.std.proofs.lemmas.List.{get_or-take, length-take-le}
-use Rattle.std.proofs.lemmas.List.Sorted.{IsPermutation-refl, All-permutation, length_permutation, sum_by-IsPermutation}
-use Rattle.std.proofs.lemmas.List.Sums.{sum_by-cons, sum_by-take-le, get_or-le-sum_by, count_by_more_yes}
-use Rattle.std.proofs.lemmas.Bool.{cases_eq, cases_lt, eq-eqb, ne_eqb}
+use Rattle.std.proofs.lemmas.List.{length-take-le}
+use Rattle.std.proofs.lemmas.List.Sorted.{IsPermutation-refl, IsPermutation-swap, IsPermutation-trans, All-permutation, length_permutation, sum_by-IsPermutation}
+use Rattle.std.proofs.lemmas.List.Sums.{sum_by-take-le, get_or-le-sum_by, count_by_more_yes}
+use Rattle.std.proofs.lemmas.Bool.{eq-eqb}
 use Rattle.oryx.specs.Steps.{times, high, step_k}
 use Rattle.oryx.specs.Tables.{exchanges, call_table}
 use Rattle.oryx.specs.Laws.{EachOnce}
@@ -17,12 +18,8 @@ unfolding exchanges
 exchanges_shuffled zero k h = IsPermutation-refl (range_with_len 0 256)
 exchanges_shuffled (suc n) k h =
     let before = exchanges_shuffled n k (omega arith) in
-    let at : ℕ = high (times (suc n) step_k k) in
-    record {
-      moves = (n, at) ∷ before.moves;
-      below = (h, omega arith, before.below);
-      is = ap (λ (l : List ℕ). swap l n at) before.is;
-    }
+    let long = length_permutation _ _ before ∙ length-range_with_len 0 256 in
+    IsPermutation-trans _ _ _ before (IsPermutation-swap _ _ n (high (times (suc n) step_k k)) (omega arith) (omega arith) refl)
 
 table_shuffled : (rand : ℕ) → IsPermutation (range_with_len 0 256) (call_table rand)
 table_shuffled rand = exchanges_shuffled 256 rand (omega arith)
@@ -30,16 +27,11 @@ table_shuffled rand = exchanges_shuffled 256 rand (omega arith)
 -- how often v is among n numbers from a on
 count_below : (n a v : ℕ) → v < a → count_by (eqb v) (range_with_len a n) ≡ 0
 count_below zero a v h = refl
-count_below (suc n) a v h = sum_by-cons (λ (x : ℕ). cond (eqb v x) 1 0) a (range_with_len (a + 1) n) ∙ rw (ne_eqb v a (omega arith)) (omega (arith, count_below n (a + 1) v (omega arith)))
+count_below (suc n) a v h = grind (arith, common_steps, count_below n (a + 1) v)
 
 count_within : (n a v : ℕ) → a ≤ v → v < a + n → count_by (eqb v) (range_with_len a n) ≡ 1
 count_within zero a v from to = absurd (omega arith)
-count_within (suc n) a v from to =
-    sum_by-cons (λ (x : ℕ). cond (eqb v x) 1 0) a (range_with_len (a + 1) n)
-    ∙ ⊎_elim
-    (λ (e : v ≡ a). rw (eq-eqb v a e) (omega (arith, count_below n (a + 1) v (omega arith))))
-    (λ (d : v ≡ a → ⊥). rw (ne_eqb v a d) (omega (arith, count_within n (a + 1) v (omega arith) (omega arith))))
-    (cases_eq v a)
+count_within (suc n) a v from to = grind (arith, common_steps, count_below n (a + 1) v, count_within n (a + 1) v)
 
 pub table_each_once : (rand : ℕ) → EachOnce (call_table rand)
 table_each_once rand =
@@ -51,30 +43,22 @@ table_each_once rand =
 -- every entry is a byte
 pub table_bytes : (rand i : ℕ) → i < 256 → get_or (call_table rand) i 0 < 256
 table_bytes rand i h =
-    let start : All (λ (x : ℕ). x < 256) (range_with_len 0 256) = All-from_get_or (λ (x : ℕ). x < 256) (range_with_len 0 256) 0 (λ j l. omega (arith, get_or-range_with_len 0 256 j 0 l)) in
-    All-get_or (λ (x : ℕ). x < 256) (call_table rand) i 0 (omega (arith, (table_each_once rand).long)) (All-permutation (λ (x : ℕ). x < 256) _ _ (table_shuffled rand) start)
+    let is_byte : ℕ → Type 0 = λ x. x < 256 in
+    let all = All-from_get_or is_byte (range_with_len 0 256) 0 (λ j l. omega (arith, get_or-range_with_len 0 256 j 0 l)) in
+    All-get_or is_byte (call_table rand) i 0 (omega (arith, (table_each_once rand).long)) (All-permutation is_byte _ _ (table_shuffled rand) all)
 
 -- what stands at two places is counted twice
 twice : (xs : List ℕ) (v i j : ℕ) → i < j → j < length xs → v ≡ get_or xs i 0 → v ≡ get_or xs j 0 → 2 ≤ count_by (eqb v) xs
 twice xs v i j less within ei ej =
     let f : ℕ → ℕ = λ x. cond (eqb v x) 1 0 in
-    let at_i : get_or (take j xs) i 0 ≡ get_or xs i 0 = get_or-take j xs i 0 less in
     let front : f (get_or (take j xs) i 0) ≤ count_by (eqb v) (take j xs) = get_or-le-sum_by f (take j xs) i 0 (omega (arith, length-take-le j xs (omega arith))) in
-    let one : f (get_or (take j xs) i 0) ≡ 1 = ap f at_i ∙ rw (eq-eqb v (get_or xs i 0) ei) in
     let more : count_by (eqb v) (take (j + 1) xs) ≡ count_by (eqb v) (take j xs) + 1 = count_by_more_yes (eqb v) xs j 0 within (eq-eqb v (get_or xs j 0) ej) in
     let all : count_by (eqb v) (take (j + 1) xs) ≤ count_by (eqb v) xs = sum_by-take-le f xs (j + 1) in
-    omega arith
+    grind (arith, common_steps)
 
 -- so a table that holds each value once has no value at two places
 pub alone : (l : List ℕ) → EachOnce l → (i j : ℕ) → i < 256 → j < 256 → get_or l i 0 < 256 → get_or l i 0 ≡ get_or l j 0 → i ≡ j
 alone l p i j hi hj small e =
-    let v : ℕ = get_or l i 0 in
-    let one : count_by (eqb v) l ≡ 1 = p.once v small in
+    let one = p.once (get_or l i 0) small in
     let long = p.long in
-    ⊎_elim
-    (λ (less : i < j). absurd (omega (arith, twice l v i j less (omega arith) refl e, one)))
-    (λ (more : j ≤ i). ⊎_elim
-    (λ (greater : j < i). absurd (omega (arith, twice l v j i greater (omega arith) e refl, one)))
-    (λ (same : i ≤ j). omega arith)
-    (cases_lt j i))
-    (cases_lt i j)
+    grind (arith, twice l (get_or l i 0) i j, twice l (get_or l i 0) j i)

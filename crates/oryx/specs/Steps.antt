@@ -1,5 +1,5 @@
 -- The registers of ORYX, words of 32 bits, and their steps.
-use Rattle.std.specs.Prelude.{ℕ, zero, suc, ◌+◌, ◌*◌, ◌/◌, ◌%◌, ◌^◌, cond, List, ◌==◌, bit_xor, slice_index}
+use Rattle.std.specs.Prelude.{ℕ, zero, suc, ◌+◌, ◌*◌, ◌/◌, ◌%◌, ◌^◌, if◌then◌else◌, List, ◌==◌, bit_xor, slice_index}
 use Rattle.oryx.specs.declared.registers.Registers.{Registers}
 
 -- f applied n times
@@ -25,7 +25,7 @@ left_step f w = bit_xor (w * 2 % 2 ^ 32) (w / 2 ^ 31 * f)
 
 -- zero is replaced before K steps
 abbrev pub non_zero : ℕ → ℕ
-non_zero k = cond (k == 0) 0x31415926 k
+non_zero k = if k == 0 then 0x31415926 else k
 
 -- one step of K
 abbrev pub step_k : ℕ → ℕ
@@ -33,7 +33,7 @@ step_k k = right_step 0xC672B008 (non_zero k)
 
 -- one step of A: the top bit of K chooses its feedback
 abbrev pub step_a : ℕ → ℕ → ℕ
-step_a k a = cond (k / 2 ^ 31 == 1) (left_step 0x04C11DB7 a) (left_step 0x0FC22F87 a)
+step_a k a = if k / 2 ^ 31 == 1 then left_step 0x04C11DB7 a else left_step 0x0FC22F87 a
 
 -- one step of B
 abbrev pub step_b : ℕ → ℕ
@@ -41,7 +41,7 @@ step_b b = left_step 0x8031804B b
 
 -- B steps twice where the bit of K below its top bit is set, and else once
 abbrev pub steps_b : ℕ → ℕ → ℕ
-steps_b k b = cond (k / 2 ^ 30 % 2 == 1) (step_b (step_b b)) (step_b b)
+steps_b k b = if k / 2 ^ 30 % 2 == 1 then step_b (step_b b) else step_b b
 
 -- one step of all three: K first, and then A and B by the new K
 unfoldable pub stepped : Registers → Registers

@@ -2,7 +2,7 @@
 // call.
 mod frames;
 
-#[derive(Clone, Copy)]
+#[derive(Clone, Copy, PartialEq, Eq, Debug)]
 pub struct OryxCall {
     pub data_key: u32,
     pub table: [u8; 256],

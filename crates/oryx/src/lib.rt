@@ -4,6 +4,7 @@
 #![tactic(auto)]
 
 pub mod call;
+mod key_stream;
 mod registers;
 pub mod steps;
 mod tables;

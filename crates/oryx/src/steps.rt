@@ -1,8 +1,6 @@
-// The steps of the registers, and the key byte that they give.
+// The steps of the registers.
 ghost use Rattle.std.specs.Prelude.{◌≡◌};
-ghost use Rattle.oryx.specs.Steps.{high, step_k, step_a, step_b, steps_b, stepped, key_byte};
-
-use crate::registers::Registers;
+ghost use Rattle.oryx.specs.Steps.{high, left_step, step_k, step_a, step_b, steps_b};
 
 // The feedback of each register: where the bit that leaves it is XORed in.
 const FEEDBACK_K: u32 = 0xc672_b008;
@@ -17,7 +15,14 @@ const FEEDBACK_B: u32 = 0x8031_804b;
 pub(crate) fn high_byte(w: u32) -> u8
     ensures { result ≡ high w }
 {
-    ((w >> 24) % 256) as u8
+    (w >> 24) as u8
+}
+
+// A step to the left: the bit that leaves at the left end is fed back where `feedback` has its bits.
+fn left_step(feedback: u32, w: u32) -> u32
+    ensures { result ≡ left_step feedback w }
+{
+    (w << 1) ^ ((w >> 31) * feedback)
 }
 
 // One step of K, to the right. A K of zero, which would stay zero, is replaced first.
@@ -32,50 +37,28 @@ pub fn step_k(k: u32) -> u32
 pub fn step_a(k: u32, a: u32) -> u32
     ensures { result ≡ step_a k a }
 {
-    if k >> 31 == 1 {
-        (a << 1) ^ ((a >> 31) * FEEDBACK_A1)
+    let feedback = if k >> 31 == 1 {
+        FEEDBACK_A1
     } else {
-        (a << 1) ^ ((a >> 31) * FEEDBACK_A2)
-    }
+        FEEDBACK_A2
+    };
+    left_step(feedback, a)
 }
 
 // One step of B, to the left.
 pub fn step_b(b: u32) -> u32
     ensures { result ≡ step_b b }
 {
-    (b << 1) ^ ((b >> 31) * FEEDBACK_B)
+    left_step(FEEDBACK_B, b)
 }
 
 // B stepped twice where the bit of K below its top bit is set, and else once.
-fn steps_b(k: u32, b: u32) -> u32
+pub(crate) fn steps_b(k: u32, b: u32) -> u32
     ensures { result ≡ steps_b k b }
 {
     if (k >> 30) % 2 == 1 {
         step_b(step_b(b))
     } else {
         step_b(b)
-    }
-}
-
-impl Registers {
-    // One step of all three: K first, and then A and B by the new K.
-    pub(crate) fn step(self) -> Registers
-        ensures { result ≡ stepped self }
-    {
-        let k = step_k(self.k);
-        Registers {
-            k,
-            a: step_a(k, self.a),
-            b: steps_b(k, self.b),
-        }
-    }
-
-    // The key byte of registers that have stepped.
-    pub(crate) fn key_byte(self, table: &[u8; 256]) -> u8
-        ensures { result ≡ key_byte table.now self }
-    {
-        high_byte(self.k)
-            .wrapping_add(table[high_byte(self.a) as usize])
-            .wrapping_add(table[high_byte(self.b) as usize])
     }
 }

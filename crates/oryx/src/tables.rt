@@ -4,21 +4,19 @@ ghost use Rattle.std.specs.List.{range_with_len};
 ghost use Rattle.oryx.specs.Steps.{times, step_k};
 ghost use Rattle.oryx.specs.Laws.{EachOnce, StartsApart};
 ghost use Rattle.oryx.specs.Frames.{call_of};
-ghost use Rattle.oryx.specs.Tables.{call_table, hash_table, into_a, into_b, into_k, hash_round, data_key_of};
+ghost use Rattle.oryx.specs.Tables.{call_table, hash_table, entered, mixed, hash_round, data_key_of};
 
 use crate::call::OryxCall;
+use crate::key_stream::KeyStream;
 use crate::registers::Registers;
 use crate::steps::{high_byte, step_k};
+use std::array;
 
 // The numbers 0 to 255 in turn.
 fn ascending() -> [u8; 256]
     ensures { result ≡ range_with_len 0 256 }
 {
-    let mut table = [0; 256];
-    for i in 0..256 {
-        table[i] = i as u8;
-    }
-    table
+    array::from_fn(|i| i as u8)
 }
 
 // The table of a call. With each step of K the next entry and the one at the leftmost byte of K change places.
@@ -27,6 +25,7 @@ fn call_table(rand: u32) -> [u8; 256]
 {
     let mut table = ascending();
     let mut k = rand;
+    // By index: `swap` takes two.
     for i in 0..256 {
         k = step_k(k);
         table.swap(i, high_byte(k) as usize);
@@ -41,52 +40,40 @@ fn hash_table(start: u32) -> ([u8; 256], u32)
 {
     let mut table = [0; 256];
     let mut k = start;
-    for i in 0..256 {
+    for entry in table.iter_mut() {
         k = step_k(k);
-        table[i] = high_byte(k);
+        *entry = high_byte(k);
     }
     (table, k)
 }
 
-impl Registers {
-    // The key byte into A, from the right.
-    fn into_a(self, table: &[u8; 256]) -> Registers
-        ensures { result ≡ into_a table.now self }
-    {
-        Registers {
-            a: (self.a << 9).wrapping_add(self.key_byte(table) as u32),
-            ..self
-        }
-    }
+// A key byte enters a word from the right: the word moves left by 9 places.
+fn entered(w: u32, byte: u8) -> u32
+    ensures { result ≡ entered w byte }
+{
+    (w << 9).wrapping_add(byte as u32)
+}
 
-    // The key byte into B, from the right.
-    fn into_b(self, table: &[u8; 256]) -> Registers
-        ensures { result ≡ into_b table.now self }
-    {
-        Registers {
-            b: (self.b << 9).wrapping_add(self.key_byte(table) as u32),
-            ..self
-        }
-    }
+// A key byte takes the place of the second byte of K, and is ANDed into the third.
+fn mixed(k: u32, byte: u8) -> u32
+    ensures { result ≡ mixed k byte }
+{
+    let byte = byte as u32;
+    ((k & 0xff00_ffff) + (byte << 16)) & (0xffff_00ff + (byte << 8))
+}
 
-    // The key byte in the place of the second byte of K, and ANDed into the third.
-    fn into_k(self, table: &[u8; 256]) -> Registers
-        ensures { result ≡ into_k table.now self }
+impl KeyStream<'_> {
+    // One round of the hash: three key bytes, one into each register.
+    fn hash_round(&mut self)
+        ensures registers { self.new.registers ≡ hash_round self.old.table.now self.old.registers }
+        ensures table { self.new.table ≡ self.old.table }
     {
-        let byte = self.key_byte(table) as u32;
-        Registers {
-            k: ((self.k & 0xff00_ffff) + (byte << 16)) & (0xffff_00ff + (byte << 8)),
-            ..self
-        }
-    }
-
-    // One round of the hash.
-    fn hash_round(self, table: &[u8; 256]) -> Registers
-        ensures { result ≡ hash_round table.now self }
-    {
-        let s = self.step().into_a(table);
-        let s = s.step().into_b(table);
-        s.step().into_k(table)
+        let byte = self.next_byte();
+        self.registers.a = entered(self.registers.a, byte);
+        let byte = self.next_byte();
+        self.registers.b = entered(self.registers.b, byte);
+        let byte = self.next_byte();
+        self.registers.k = mixed(self.registers.k, byte);
     }
 }
 
@@ -97,22 +84,15 @@ fn data_key(ssd_b: u64) -> u32
     let a = (ssd_b >> 32) as u32;
     let b = (ssd_b % 0x1_0000_0000) as u32;
     let (table, k) = hash_table(a ^ b);
-    let mut s = Registers { k, a, b };
+    let mut stream = KeyStream {
+        registers: Registers { k, a, b },
+        table: &table,
+    };
     for _ in 0..32u8 {
-        s = s.hash_round(&table);
+        stream.hash_round();
     }
-    s.a ^ s.b ^ s.k
-}
-
-// DataKey and table of a call.
-fn derive(ssd_b: u64, rand: u32) -> OryxCall
-    ensures { result ≡ call_of ssd_b rand }
-{
-    let table = call_table(rand);
-    OryxCall {
-        data_key: data_key(ssd_b),
-        table,
-    }
+    let Registers { k, a, b } = stream.registers;
+    a ^ b ^ k
 }
 
 impl OryxCall {
@@ -122,6 +102,10 @@ impl OryxCall {
         ensures each_once { EachOnce result.table }
         ensures starts_apart { StartsApart result }
     {
-        derive(ssd_b, rand)
+        let table = call_table(rand);
+        OryxCall {
+            data_key: data_key(ssd_b),
+            table,
+        }
     }
 }

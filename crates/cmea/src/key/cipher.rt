@@ -1,5 +1,5 @@
 // Making a key, and ciphering under it.
-ghost use Rattle.std.specs.Prelude.{◌≡◌, ◌≤◌, length, bit_or, bit_xor};
+ghost use Rattle.std.specs.Prelude.{◌≡◌, ◌≤◌, length};
 ghost use Rattle.cmea.specs.Substitution.{stage, tbox};
 ghost use Rattle.cmea.specs.Passes.{drawn, first_pass, second_pass, third_pass};
 ghost use Rattle.cmea.specs.Ciphering.{answer_to, ciphered, TurnsLowestBit};
@@ -7,6 +7,7 @@ ghost use Rattle.cmea.specs.Ciphering.{answer_to, ciphered, TurnsLowestBit};
 use crate::key::CmeaKey;
 use cave::table::entry;
 use refusal::Refusal;
+use std::array;
 
 // One look-up of the substitution of z, under two bytes of the key.
 fn look_up(first: u8, second: u8, z: u8, r: u8) -> u8
@@ -30,10 +31,7 @@ impl CmeaKey {
     pub fn new(bytes: [u8; 8]) -> Self
         ensures { result.bytes ≡ bytes }
     {
-        let mut substitution = [0; 256];
-        for z in 0..256 {
-            substitution[z] = substitute(bytes, z as u8);
-        }
+        let substitution = array::from_fn(|z| substitute(bytes, z as u8));
         CmeaKey {
             bytes,
             substitution,
@@ -54,7 +52,7 @@ impl CmeaKey {
         self.at(z ^ (i % 256) as u8)
     }
 
-    // The first pass.
+    // The first pass. It stays apart from the third: one loop for both, over a closure that gives two bytes, is longer.
     fn raise(&self, message: &mut [u8])
         ensures { message.new ≡ first_pass (tbox self.now.bytes) 0 0 message.old }
     {
@@ -71,9 +69,9 @@ impl CmeaKey {
     {
         let mut z: u8 = 0;
         for (i, byte) in message.iter_mut().enumerate() {
-            let old = *byte;
-            *byte = old.wrapping_sub(self.draw(i, z));
-            z = z.wrapping_add(old);
+            let raised = *byte;
+            *byte = raised.wrapping_sub(self.draw(i, z));
+            z = z.wrapping_add(raised);
         }
     }
 
@@ -97,19 +95,12 @@ impl CmeaKey {
     }
 }
 
-// A byte of the first half, with the byte as far from the end taken up.
-fn take_up(near: u8, far: u8) -> u8
-    ensures { result ≡ bit_xor near (bit_or far 1) }
-{
-    near ^ (far | 1)
-}
-
-// The second pass.
+// The second pass: a byte of the first half takes up the byte as far from the end, with its lowest bit set.
 fn fold(message: &mut [u8])
     ensures { message.new ≡ second_pass message.old }
 {
-    let length = message.len();
-    for i in 0..length / 2 {
-        message[i] = take_up(message[i], message[length - 1 - i]);
+    let (front, back) = message.split_at_mut(message.len() / 2);
+    for (i, near) in front.iter_mut().enumerate() {
+        *near ^= back[back.len() - 1 - i] | 1;
     }
 }

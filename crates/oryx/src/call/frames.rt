@@ -3,6 +3,7 @@ ghost use Rattle.std.specs.Prelude.{◌≡◌, length};
 ghost use Rattle.oryx.specs.Frames.{word, start, mask, masked};
 
 use crate::call::OryxCall;
+use crate::key_stream::KeyStream;
 use crate::registers::Registers;
 use crate::steps::step_k;
 
@@ -11,11 +12,11 @@ impl OryxCall {
     fn look_up(&self, hook: u32) -> u32
         ensures { result ≡ word self.now.table hook }
     {
-        let low = hook % 256;
+        let [b3, b2, b1, low] = hook.to_be_bytes();
         u32::from_be_bytes([
-            self.table[(((hook >> 24) % 256 + low) % 256) as usize],
-            self.table[(((hook >> 16) % 256 + low) % 256) as usize],
-            self.table[(((hook >> 8) % 256 + low) % 256) as usize],
+            self.table[b3.wrapping_add(low) as usize],
+            self.table[b2.wrapping_add(low) as usize],
+            self.table[b1.wrapping_add(low) as usize],
             self.table[low as usize],
         ])
     }
@@ -40,10 +41,12 @@ impl OryxCall {
         ensures length_stays { length body.new ≡ length body.old }
         ensures undoes_itself { masked self.now hook body.new ≡ body.old }
     {
-        let mut s = self.start(hook);
+        let mut stream = KeyStream {
+            registers: self.start(hook),
+            table: &self.table,
+        };
         for byte in body.iter_mut() {
-            s = s.step();
-            *byte ^= s.key_byte(&self.table);
+            *byte ^= stream.next_byte();
         }
     }
 

@@ -1,24 +1,17 @@
-use Rattle.std.proofs.Common.{◌≡◌, ◌/◌, ◌%◌, ◌^◌, refl, ap, arith}
-use lib.Bits.{bit_xor}
+use Rattle.std.proofs.Common.{arith}
+use Rattle.std.proofs.lemmas.Grind.{common_steps}
 use Rattle.oryx.specs.Steps.{times}
-use Rattle.oryx.specs.Tables.{hash_table, hash_round, hash_start, hash, joined}
-use Rattle.oryx.proofs.Turns.{times_more}
+use Rattle.oryx.specs.Tables.{hash_start, hash}
 use Rattle.oryx.proofs.tables.data_key.Goals as goal
 
 pub loop-init : goal.loop-init
 unfolding times
-loop-init c = refl
+loop-init c = grind (arith, common_steps)
 
 pub loop-preserved : goal.loop-preserved
-loop-preserved c = times_more _ _ _ _ _ c.loop.invariant c.hash_round-s.ensures
+unfolding times
+loop-preserved c = grind (arith, common_steps)
 
 pub returns : goal.returns
 unfolding hash hash_start
-returns c =
-    let a = c.args.ssd_b / 2 ^ 32 in
-    let b = c.args.ssd_b % 2 ^ 32 in
-    let all : c.loop.counter ≡ 32 = omega arith in
-    let t = c.hash_table-k.ensures.table in
-    let k = c.hash_table-k.ensures.k in
-    let s : c.loop.s ≡ times 32 (hash_round (hash_table (bit_xor a b))) (hash_start a b) = cc in
-    ap joined s
+returns c = grind (arith, common_steps)

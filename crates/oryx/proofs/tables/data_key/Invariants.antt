@@ -4,4 +4,4 @@ use Rattle.oryx.specs.Tables.{hash_round}
 use Rattle.oryx.proofs.tables.data_key.Given as goal
 
 abbrev pub invariant-loop : goal.invariant-loop
-invariant-loop l = l.s ≡ times l.counter (hash_round l.table) l.initial.s
+invariant-loop l = (l.stream.table ≡ l.initial.stream.table) × (l.stream.registers ≡ times l.counter (hash_round l.initial.stream.table.now) l.initial.stream.registers)

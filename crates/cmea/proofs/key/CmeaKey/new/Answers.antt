@@ -1,11 +1,8 @@
-use Rattle.std.proofs.Common.{◌∙◌, arith}
-use Rattle.std.proofs.lemmas.List.{length-set}
-use Rattle.std.proofs.lemmas.List.Edits.{fill_by_more}
+use Rattle.std.proofs.Common.{arith, rules}
 use Rattle.cmea.specs.Substitution.{tbox}
+use Rattle.cmea.proofs.Made.{made}
 use Rattle.cmea.proofs.key.CmeaKey.new.Goals as goal
 
-pub loop-z-preserved : goal.loop-z-preserved
-loop-z-preserved c = (
-  length-set _ _ _ ∙ c.loop-z.invariant.0,
-  rw c.substitute.ensures (fill_by_more (tbox c.args.bytes) c.loop-z.substitution c.loop-z.z 0 (omega arith) c.loop-z.invariant.1),
-)
+pub invariant_of-result : goal.invariant_of-result
+invariant_of-result c =
+    record { made = λ z h. made _ _ (tbox c.args.bytes) 256 (λ i y q l k. search rules) c.from_fn-substitution.result 0 256 z (omega arith) c.from_fn-substitution.ensures.items.each (omega arith) (omega arith) }

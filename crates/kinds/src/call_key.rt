@@ -1,5 +1,5 @@
 // What a kind derives once from an opening record, and ciphers the bodies of a call with.
-ghost use Rattle.std.specs.Prelude.{◌≡◌, ℕ, ◌≤◌, List, length};
+ghost use Rattle.std.specs.Prelude.{◌≡◌, ℕ, List, length, nat_lt, if◌then◌else◌};
 ghost use Rattle.auth.specs.declared.types.OpeningRecord.{OpeningRecord as Opening};
 ghost use Rattle.cipher.specs.Kind.{Lawful};
 ghost use Rattle.kinds.specs.Kinds.{kind_of};
@@ -22,10 +22,9 @@ pub trait CallKey: Copy {
     fn derive(opening: OpeningRecord) -> Self
         ensures { applied result ≡ image opening };
 
-    // Enciphers or deciphers a body in place; the two are the same. For `KeyedCipher` alone, which has tested the length.
+    // Enciphers or deciphers a body in place; the two are the same. One of under the least length stays as it was.
     fn apply(&self, hook: u32, body: &mut [u8])
-        requires { LEAST ≤ length body.old }
-        ensures { body.new ≡ applied self.now hook body.old };
+        ensures { body.new ≡ (if nat_lt (length body.old) LEAST then body.old else applied self.now hook body.old) };
 
     // the map keeps the length of a body and undoes itself
     ghost lawful: { Lawful (kind_of LEAST image) };

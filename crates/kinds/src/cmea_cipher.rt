@@ -28,6 +28,6 @@ impl CallKey for CmeaKey {
 
     fn apply(&self, _hook: u32, body: &mut [u8]) {
         // CMEA refuses only what is shorter
-        self.cipher(body).unwrap();
+        let _ = self.cipher(body);
     }
 }

@@ -1,7 +1,7 @@
 // Bodies there and back under each kind, and behind a clear head.
 use crate::cmea_cipher::CmeaCipher;
 use crate::oryx_cipher::OryxCipher;
-use auth::types::{AuthData, OpeningRecord};
+use auth::types::{AuthData, OpeningRecord, RunEnd};
 use cipher::fault::CipherFault;
 use cipher::head::ClearHead;
 use cipher::kind::Cipher;
@@ -16,9 +16,11 @@ fn opening() -> OpeningRecord {
         esn: 0xd75a_96ec,
         rand: 0x34a2_b05f,
         auth_data: AuthData([0xc7, 0x90, 0x21]),
-        lfsr: 0x0f4c_2c51,
-        offset1: 0x4a,
-        offset2: 0x6e,
+        left: RunEnd {
+            lfsr: 0x0f4c_2c51,
+            offset1: 0x4a,
+            offset2: 0x6e,
+        },
     }
 }
 

@@ -14,6 +14,7 @@ impl Registers {
     ghost use Rattle.oryx.specs.Steps.{stepped, key_byte};
 
     // One step of all three: K first, and then A and B by the new K.
+    #[tactic(auto, unfolding(crate::specs::Steps::stepped))]
     pub(crate) fn step(self) -> Registers
         ensures { result ≡ stepped self }
     {

@@ -64,6 +64,7 @@ fn mixed(k: u32, byte: u8) -> u32
 
 impl KeyStream<'_> {
     // One round of the hash: three key bytes, one into each register.
+    #[tactic(auto, unfolding(crate::specs::Tables::hash_round))]
     fn hash_round(&mut self)
         ensures registers { self.new.registers ≡ hash_round self.old.table.now self.old.registers }
         ensures table { self.new.table ≡ self.old.table }
@@ -78,6 +79,7 @@ impl KeyStream<'_> {
 }
 
 // The DataKey of SSD_B: its halves, hashed for 32 rounds.
+#[tactic(auto, unfolding(crate::specs::Steps::times, crate::specs::Tables::hash, crate::specs::Tables::hash_start))]
 fn data_key(ssd_b: u64) -> u32
     ensures { result ≡ data_key_of ssd_b }
 {

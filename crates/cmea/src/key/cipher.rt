@@ -17,6 +17,7 @@ fn look_up(first: u8, second: u8, z: u8, r: u8) -> u8
 }
 
 // The substitution of z.
+#[tactic(auto, unfolding(crate::specs::Substitution::tbox))]
 fn substitute(key: [u8; 8], z: u8) -> u8
     ensures { result ≡ tbox key z }
 {
@@ -53,6 +54,7 @@ impl CmeaKey {
     }
 
     // The first pass. It stays apart from the third: one loop for both, over a closure that gives two bytes, is longer.
+    #[tactic(auto, unfolding(crate::specs::Passes::first_pass))]
     fn raise(&self, message: &mut [u8])
         ensures { message.new ≡ first_pass (tbox self.now.bytes) 0 0 message.old }
     {
@@ -64,6 +66,7 @@ impl CmeaKey {
     }
 
     // The third pass, which undoes the first.
+    #[tactic(auto, unfolding(crate::specs::Passes::third_pass))]
     fn lower(&self, message: &mut [u8])
         ensures { message.new ≡ third_pass (tbox self.now.bytes) 0 0 message.old }
     {

@@ -22,6 +22,7 @@ impl OryxCall {
     }
 
     // The registers before the first key byte of a frame.
+    #[tactic(auto, unfolding(crate::specs::Frames::start, crate::specs::Steps::times))]
     fn start(&self, hook: u32) -> Registers
         ensures { result ≡ start self.now hook }
     {

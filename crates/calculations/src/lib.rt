@@ -66,7 +66,8 @@ pub enum Answer {
     Passed(bool),
 }
 
-// The answer to a calculation, and what it makes of the body.
+// The answer to a calculation, and what it makes of the body. A `match` and no closures: a calculation is data, so that one
+// definition can name the answer to each.
 pub fn perform(calculation: Calculation, body: &mut [u8]) -> Result<Answer, Refusal>
     ensures answer { result ≡ answer_of calculation body.old }
     ensures body { body.new ≡ body_after calculation body.old }

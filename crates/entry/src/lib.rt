@@ -33,7 +33,7 @@ fn digit(byte: u8) -> u32
     byte.saturating_sub(b'0') as u32
 }
 
-// The number that six check digits write.
+// The number that six check digits write, named one by one as the pattern below gives them.
 fn check_number(a: u8, b: u8, c: u8, d: u8, e: u8, f: u8) -> u32
     ensures { result ≡ decimal (a ∷ b ∷ c ∷ d ∷ e ∷ f ∷ []) }
 {

@@ -1,4 +1,5 @@
-// The words of a line, taken one by one from the front.
+// The words of a line, taken one by one from the front. They are bytes and no `str`: key digits are bytes as they were typed, and a
+// `str` would have to be shown to be cut between characters.
 ghost use Rattle.std.specs.Prelude.{◌≡◌, ◌≤◌, length, take_while};
 ghost use Rattle.std.specs.Option.{option_copied};
 ghost use Rattle.fields.specs.Words.{is_blank, solid, first_word, behind_word, unless_empty};

@@ -18,7 +18,7 @@ fn is_hex(b: u8) -> bool
     matches!(b, b'0'..=b'9' | b'A'..=b'F')
 }
 
-// The value of a hex digit, and 0 for any other byte.
+// The value of a hex digit, and 0 for any other byte. No `Option`: it is asked only of bytes that were tested.
 fn value(b: u8) -> u8
     ensures is { result ≡ hex_value b }
     ensures small { result < 16 }

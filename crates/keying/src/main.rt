@@ -23,6 +23,7 @@ fn answer(rt: &impl Print, line: &str) -> io::Result<()> {
     }
 }
 
+// The loop is written in both programs: a public function over the answer to a line would ask that its closure may be called.
 fn main(rt: HostRuntime) -> io::Result<()> {
     for line in BufReader::new(rt.alloc(), rt.stdin())?.lines(rt.alloc()) {
         let line = line?;

@@ -16,6 +16,7 @@ struct Held<K: CallKey> {
     ghost derived: { K.applied key ≡ K.image opening },
 }
 
+// By hand: a derive on a generic type with a ghost field is refused.
 impl<K: CallKey> Clone for Held<K> {
     ghost is_clone = { λ x y. y ≡ x };
 

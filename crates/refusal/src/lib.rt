@@ -22,7 +22,7 @@ pub enum Refusal {
 }
 
 impl Refusal {
-    // The number of the case.
+    // The number of the case. A method and no `From`, since `u8::from(refusal)` would not say which number that is.
     pub fn number(&self) -> u8
         ensures { result ≡ number_of self.now }
     {

@@ -2,7 +2,7 @@ use Rattle.std.proofs.Common.{length, arith}
 use Rattle.std.proofs.lemmas.Grind.{common_steps}
 use Rattle.std.proofs.lemmas.List.FromFn.{fill_by_all}
 use Rattle.cmea.specs.Passes.{folded, second_pass}
-use Rattle.cmea.proofs.key.cipher.fold.Goals as goal
+use Rattle.cmea.proofs.key.fold.Goals as goal
 
 pub returns : goal.returns
 unfolding second_pass

@@ -1,6 +1,6 @@
 use Rattle.std.proofs.Common.{◌≡◌, ℕ, ◌<◌, ◌≤◌, get_or}
 use Rattle.cmea.specs.Passes.{folded}
-use Rattle.cmea.proofs.key.cipher.fold.Given as goal
+use Rattle.cmea.proofs.key.fold.Given as goal
 
 -- the bytes of the first half that are done are folded, and the others are as they were
 abbrev pub invariant-loop-i : goal.invariant-loop-i

@@ -1,12 +1,12 @@
 -- ASCII digits and the numbers that they write.
-use Rattle.std.specs.Prelude.{ℕ, ◌+◌, ◌-◌, cond, List, [], ◌∷◌, map, Some, None, Option}
+use Rattle.std.specs.Prelude.{ℕ, ◌+◌, ◌-◌, if◌then◌else◌, List, [], ◌∷◌, map, Some, None, Option}
 use Rattle.std.specs.Char.{is_ascii_digit}
 use Rattle.std.specs.Int.Digits.{number_from_digits}
 
 -- the index of the first byte that is no digit, where the first byte of the list has index i
 unfoldable pub first_bad : List ℕ → ℕ → Option ℕ
 first_bad [] i = None
-first_bad (b ∷ bs) i = cond (is_ascii_digit b) (first_bad bs (i + 1)) (Some i)
+first_bad (b ∷ bs) i = if is_ascii_digit b then first_bad bs (i + 1) else Some i
 
 -- the value of a digit
 abbrev pub value_of : ℕ → ℕ

@@ -1,5 +1,5 @@
 -- What is read of a key entry: the digits of an A-key, and behind them six check digits.
-use Rattle.std.specs.Prelude.{◌≡◌, ℕ, ◌-◌, ◌%◌, ◌^◌, ◌<◌, ◌≤◌, true, false, cond, ◌||◌, ◌⊎◌, List, length, take, drop, Some, None, Ok, Err, Option, Result, ◌==◌, ◌≢◌, nat_lt, slice_index}
+use Rattle.std.specs.Prelude.{◌≡◌, ℕ, ◌-◌, ◌%◌, ◌^◌, ◌<◌, ◌≤◌, true, false, if◌then◌else◌, ◌||◌, ◌⊎◌, List, length, take, drop, Some, None, Ok, Err, Option, Result, ◌==◌, ◌≢◌, nat_lt, slice_index}
 use Rattle.std.specs.Char.{is_ascii_digit}
 use Rattle.auth.specs.Uses.{akey_check_of}
 use Rattle.refusal.specs.declared.Refusal.{Refusal}
@@ -30,8 +30,8 @@ right_check esn bs = akey_check_of (record { esn = esn; key = key_of bs })
 -- the answer to an entry: first the count, then the digits, then the check
 abbrev pub entry_read : ℕ → List ℕ → Result ℕ Refusal
 entry_read esn bs =
-    cond (nat_lt (length bs) 6 || nat_lt 26 (length bs)) (Err (WrongCount (length bs)))
-    (unless_bad (first_bad bs 0) (cond (check_of bs == right_check esn bs) (Ok (key_of bs)) (Err CheckDiffers)))
+    if nat_lt (length bs) 6 || nat_lt 26 (length bs) then Err (WrongCount (length bs)) else
+    unless_bad (first_bad bs 0) (if check_of bs == right_check esn bs then Ok (key_of bs) else Err CheckDiffers)
 
 -- every byte below place n is a digit
 abbrev pub DigitsBelow : List ℕ → ℕ → Type 0

@@ -11,6 +11,7 @@ use auth::uses::akey_check;
 use refusal::Refusal;
 
 // The number of the first `key_count` bytes modulo 2^64, if every byte is a digit.
+#[tactic(auto, using(crate::proofs::Scan::scanning))]
 fn read_digits(bytes: &[u8], key_count: usize) -> Result<u64, Refusal>
     ensures { result ≡ digits_read bytes.now key_count }
 {

@@ -19,6 +19,7 @@ fn gives(digits: &[u8], key: u64) -> bool
 }
 
 // Whether the key digits agree.
+#[tactic(auto, unfolding(entry::specs::Digits::first_bad))]
 fn keys_agree() -> bool
     ensures { result ≡ true }
 {
@@ -58,6 +59,7 @@ fn become_these(message: [u8; 2], these: [u8; 2]) -> bool
 }
 
 // Runs every worked example, and answers whether the code agrees with all of them.
+#[tactic(auto, unfolding(entry::specs::Digits::first_bad, cave::specs::Table::table, cmea::specs::Substitution::tbox, cmea::specs::Passes::first_pass, cmea::specs::Passes::second_pass, cmea::specs::Passes::third_pass, cmea::specs::Ciphering::image))]
 pub fn self_test() -> bool
     ensures passes { result ≡ true }
     ensures examples { WorkedExamples }

@@ -38,6 +38,7 @@ fn all_hex(text: &[u8]) -> bool
 }
 
 // Reads two upper-case hex digits a byte into the whole of `out`; a text that is not just that leaves `out` as it was.
+#[tactic(auto, unfolding(crate::specs::Hex::is_field, crate::specs::Hex::field_byte, crate::specs::Hex::field_bytes))]
 pub fn read_hex(text: &[u8], out: &mut [u8]) -> Result<(), NotAField>
     ensures answer { IsOk result ↔ IsTrue (is_field text.now (length out.old)) }
     ensures after { out.new ≡ (if is_field text.now (length out.old) then field_bytes text.now (length out.old) else out.old) }

@@ -1,10 +1,11 @@
-// The words of a line, taken one by one from the front. They are bytes and no `str`: key digits are bytes as they were typed, and a
-// `str` would have to be shown to be cut between characters.
-ghost use Rattle.std.specs.Prelude.{◌≡◌, ◌≤◌, length, take_while};
+// The words of a line, taken one by one from the front. Only a space, a tab and a carriage return part them, fewer bytes than the
+// library's words of a `str` are parted by; and what reads a word takes bytes.
+ghost use Rattle.std.specs.Prelude.{◌≡◌, length, take_while};
 ghost use Rattle.std.specs.Option.{option_copied};
 ghost use Rattle.fields.specs.Words.{is_blank, solid, first_word, behind_word, unless_empty};
-ghost use Rattle.fields.specs.Fields.{padded, value_read, short_number_read};
+ghost use Rattle.fields.specs.Fields.{or_expected};
 
+use crate::expected::{Expected, Form};
 use crate::field::Field;
 
 #[derive(Clone, Copy)]
@@ -22,34 +23,14 @@ fn is_blank(byte: u8) -> bool
 fn count_blanks(line: &[u8]) -> usize
     ensures { result ≡ length (take_while is_blank line.now) }
 {
-    line.iter().take_while(|b| is_blank(**b)).count()
+    line.iter().take_while(|&&b| is_blank(b)).count()
 }
 
 // How many bytes in front are not.
 fn word_length(text: &[u8]) -> usize
     ensures { result ≡ length (solid text.now) }
 {
-    text.iter().take_while(|b| !is_blank(**b)).count()
-}
-
-// At most 8 digits, with zeros in front to make 8.
-fn pad(text: &[u8]) -> [u8; 8]
-    requires { length text.now ≤ 8 }
-    ensures { result ≡ padded text.now }
-{
-    let mut eight = [b'0'; 8];
-    eight[8 - text.len()..].copy_from_slice(text);
-    eight
-}
-
-// A number of 32 bits in 1 to 8 digits, with or without zeros in front.
-fn read_number(text: &[u8]) -> Option<u32>
-    ensures { result ≡ short_number_read text.now }
-{
-    if text.is_empty() || text.len() > 8 {
-        return None;
-    }
-    u32::read(&pad(text))
+    text.iter().take_while(|&&b| !is_blank(b)).count()
 }
 
 impl<'a> Words<'a> {
@@ -71,19 +52,12 @@ impl<'a> Words<'a> {
         if word.is_empty() { None } else { Some(word) }
     }
 
-    // The next word as a value in hex.
-    pub fn next_field<F: Field>(&mut self) -> Option<F>
-        ensures value { result ≡ value_read F.width F.value (first_word self.old.rest.now) }
+    // The next word as a value of this type; where it is none, this form was expected.
+    pub fn field<F: Field>(&mut self, form: Form) -> Result<F, Expected>
+        ensures value { result ≡ or_expected form (F.value_of (first_word self.old.rest.now)) }
         ensures rest { self.new.rest.now ≡ behind_word self.old.rest.now }
     {
-        F::read(self.next_word()?)
-    }
-
-    // The next word as a number of 32 bits in 1 to 8 hex digits.
-    pub fn next_number(&mut self) -> Option<u32>
-        ensures value { result ≡ short_number_read (first_word self.old.rest.now) }
-        ensures rest { self.new.rest.now ≡ behind_word self.old.rest.now }
-    {
-        read_number(self.next_word()?)
+        let word = self.next_word().ok_or(Expected(form))?;
+        F::read(word).ok_or(Expected(form))
     }
 }

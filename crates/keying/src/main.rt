@@ -15,15 +15,15 @@ use terminal::key_terminal;
 
 fn answer(rt: &impl Print, line: &str) -> io::Result<()> {
     match read_request(line.as_bytes()) {
-        Ok(request) => match key_terminal(request.esn, request.typed, request.numbers) {
+        Ok(request) => match key_terminal(&request) {
             Ok(keyed) => println!(rt; "{line} -> {keyed}"),
             Err(refusal) => println!(rt; "{line} -> {}", Explained(refusal)),
         },
-        Err(expected) => println!(rt; "{line} -> error: {expected}"),
+        Err(fault) => println!(rt; "{line} -> error: {fault}"),
     }
 }
 
-// The loop is written in both programs: a public function over the answer to a line would ask that its closure may be called.
+// The loop stands in both programs: shared over a closure it would ask that this may be called, and over a trait be longer.
 fn main(rt: HostRuntime) -> io::Result<()> {
     for line in BufReader::new(rt.alloc(), rt.stdin())?.lines(rt.alloc()) {
         let line = line?;

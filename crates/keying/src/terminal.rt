@@ -3,6 +3,7 @@ ghost use Rattle.std.specs.Prelude.{◌≡◌};
 ghost use Rattle.entry.specs.Entry.{entry_read};
 ghost use Rattle.keying.specs.Keying.{keyed, keyed_with};
 
+use crate::request::Request;
 use auth::keys::call_keys;
 use auth::types::{AuthData, CallKeys, Challenge, OpeningRecord, RandSsd, Renewal, Ssd};
 use auth::uses::{new_ssd, sign};
@@ -56,9 +57,9 @@ fn derive_keys(esn: u32, numbers: Numbers, key: u64) -> Keyed
 }
 
 // The whole keying.
-pub(crate) fn key_terminal(esn: u32, typed: &[u8], numbers: Numbers) -> Result<Keyed, Refusal>
-    ensures { result ≡ keyed esn numbers (entry_read esn typed.now) }
+pub(crate) fn key_terminal(request: &Request<'_>) -> Result<Keyed, Refusal>
+    ensures { result ≡ keyed request.now.esn request.now.numbers (entry_read request.now.esn request.now.typed.now) }
 {
-    let key = read_entry(esn, typed)?;
-    Ok(derive_keys(esn, numbers, key))
+    let key = read_entry(request.esn, request.typed)?;
+    Ok(derive_keys(request.esn, request.numbers, key))
 }

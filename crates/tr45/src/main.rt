@@ -4,7 +4,7 @@
 
 mod request;
 
-use calculations::{Shown, perform};
+use calculations::Shown;
 use request::read_line;
 use std::alloc::Global;
 use std::io;
@@ -16,19 +16,19 @@ fn answer(rt: &impl Print, heap: Global, line: &str) -> io::Result<()> {
         Err(fault) => return println!(rt; "{line} -> error: {fault}"),
     };
     let mut body = Vec::from_elem(heap, 0, request.body.length())?;
-    if let Err(expected) = request.body.fill(&mut body) {
-        return println!(rt; "{line} -> error: {expected}");
-    }
-    match perform(request.calculation, &mut body) {
-        Ok(answer) => {
-            let body = &body;
-            println!(rt; "{line} -> {}", Shown { answer, body })
-        }
-        Err(refusal) => println!(rt; "{line} -> error: {refusal}"),
+    match request.answer(&mut body) {
+        Ok(answer) => println!(rt;
+            "{line} -> {}",
+            Shown {
+                answer,
+                body: &body
+            }
+        ),
+        Err(fault) => println!(rt; "{line} -> error: {fault}"),
     }
 }
 
-// The loop is written in both programs: a public function over the answer to a line would ask that its closure may be called.
+// The loop stands in both programs: shared over a closure it would ask that this may be called, and over a trait be longer.
 fn main(rt: HostRuntime) -> io::Result<()> {
     for line in BufReader::new(rt.alloc(), rt.stdin())?.lines(rt.alloc()) {
         let line = line?;

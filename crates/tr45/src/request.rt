@@ -1,11 +1,12 @@
-// Reading a line: the name of a calculation, and its fields.
+// Reading a line, the name of a calculation and its fields, and answering it.
 use auth::types::{Challenge, OpeningRecord, Renewal, RunEnd, TerminalKey};
-use calculations::{Calculation, CallInputs, MaskInputs};
+use calculations::{Answer, Calculation, CallInputs, MaskInputs, perform};
 use entry::read_key;
-use fields::expected::Expected;
-use fields::field::Field;
+use fields::expected::{Expected, Form};
+use fields::field::ShortNumber;
 use fields::words::Words;
 use hex_field::read_hex;
+use refusal::Refusal;
 use std::error::Error;
 use std::fmt;
 
@@ -25,7 +26,7 @@ pub enum Body<'a> {
     Room(usize),
 }
 
-impl<'a> Body<'a> {
+impl Body<'_> {
     // How many bytes it has.
     pub(crate) fn length(self) -> usize {
         match self {
@@ -35,11 +36,19 @@ impl<'a> Body<'a> {
     }
 
     // Fills in its bytes.
-    pub(crate) fn fill(self, bytes: &mut [u8]) -> Result<(), Expected> {
+    fn fill(self, bytes: &mut [u8]) -> Result<(), Expected> {
         match self {
-            Body::Hex(text) => read_hex(text, bytes).map_err(|_| Expected(MESSAGE)),
+            Body::Hex(text) => read_hex(text, bytes).map_err(|_| Expected(Form::Message)),
             Body::Room(_) => Ok(()),
         }
+    }
+}
+
+impl Request<'_> {
+    // The answer to it, in memory for its body.
+    pub(crate) fn answer(self, memory: &mut [u8]) -> Result<Answer, Fault> {
+        self.body.fill(memory)?;
+        Ok(perform(self.calculation, memory)?)
     }
 }
 
@@ -50,6 +59,8 @@ pub enum Fault {
     // a field is missing, or does not have the form of its name
     Field(Expected),
     MoreFields,
+    // the calculation is refused
+    Refused(Refusal),
 }
 
 impl fmt::Display for Fault {
@@ -58,6 +69,7 @@ impl fmt::Display for Fault {
             Fault::UnknownName => write!(f, "no such calculation"),
             Fault::Field(expected) => write!(f, "{expected}"),
             Fault::MoreFields => write!(f, "more fields than it takes"),
+            Fault::Refused(refusal) => write!(f, "{refusal}"),
         }
     }
 }
@@ -70,91 +82,67 @@ impl From<Expected> for Fault {
     }
 }
 
-// The form of each field.
-const AUTH_DATA: &str = "AUTH_DATA: 6 hex digits";
-
-const DIGITS: &str = "DIGITS: 1 to 20 decimal digits, or - for none";
-
-const ESN: &str = "ESN: 8 hex digits";
-
-const HOOK: &str = "HOOK: 8 hex digits";
-
-const K: &str = "K: 8 hex digits";
-
-const LENGTH: &str = "LENGTH: a hex number from 0 to FFFF";
-
-const LFSR: &str = "LFSR: 8 hex digits";
-
-const MESSAGE: &str = "MESSAGE: two hex digits a byte, or - for none";
-
-const OFFSET: &str = "OFFSET: 2 hex digits";
-
-const RAND: &str = "RAND: 8 hex digits";
-
-const RANDSSD: &str = "RANDSSD: 14 hex digits";
-
-const SECRET: &str = "KEY or SSD: 16 hex digits";
-
-// The next field, of this form.
-fn field<F: Field>(words: &mut Words<'_>, form: &'static str) -> Result<F, Expected> {
-    words.next_field().ok_or(Expected(form))
+impl From<Refusal> for Fault {
+    fn from(refusal: Refusal) -> Fault {
+        Fault::Refused(refusal)
+    }
 }
 
 fn terminal_key(words: &mut Words<'_>) -> Result<TerminalKey, Expected> {
     Ok(TerminalKey {
-        esn: field(words, ESN)?,
-        key: field(words, SECRET)?,
+        esn: words.field(Form::Esn)?,
+        key: words.field(Form::Secret)?,
     })
 }
 
 fn renewal(words: &mut Words<'_>) -> Result<Renewal, Expected> {
     Ok(Renewal {
-        esn: field(words, ESN)?,
-        key: field(words, SECRET)?,
-        rand_ssd: field(words, RANDSSD)?,
+        esn: words.field(Form::Esn)?,
+        key: words.field(Form::Secret)?,
+        rand_ssd: words.field(Form::RandSsd)?,
     })
 }
 
 fn challenge(words: &mut Words<'_>) -> Result<Challenge, Expected> {
     Ok(Challenge {
-        esn: field(words, ESN)?,
-        secret: field(words, SECRET)?,
-        rand: field(words, RAND)?,
-        auth_data: field(words, AUTH_DATA)?,
+        esn: words.field(Form::Esn)?,
+        secret: words.field(Form::Secret)?,
+        rand: words.field(Form::Rand)?,
+        auth_data: words.field(Form::AuthData)?,
     })
 }
 
 // What a run of CAVE leaves.
 fn run_end(words: &mut Words<'_>) -> Result<RunEnd, Expected> {
     Ok(RunEnd {
-        lfsr: field(words, LFSR)?,
-        offset1: field(words, OFFSET)?,
-        offset2: field(words, OFFSET)?,
+        lfsr: words.field(Form::Lfsr)?,
+        offset1: words.field(Form::Offset)?,
+        offset2: words.field(Form::Offset)?,
     })
 }
 
 // What a call opens with, and then what the opening signature left.
 fn opening(words: &mut Words<'_>) -> Result<OpeningRecord, Expected> {
     Ok(OpeningRecord {
-        esn: field(words, ESN)?,
-        ssd_b: field(words, SECRET)?,
-        rand: field(words, RAND)?,
-        auth_data: field(words, AUTH_DATA)?,
+        esn: words.field(Form::Esn)?,
+        ssd_b: words.field(Form::Secret)?,
+        rand: words.field(Form::Rand)?,
+        auth_data: words.field(Form::AuthData)?,
         left: run_end(words)?,
     })
 }
 
 fn call(words: &mut Words<'_>) -> Result<CallInputs, Expected> {
     Ok(CallInputs {
-        ssd_b: field(words, SECRET)?,
-        rand: field(words, RAND)?,
+        ssd_b: words.field(Form::Secret)?,
+        rand: words.field(Form::Rand)?,
     })
 }
 
 fn mask(words: &mut Words<'_>) -> Result<MaskInputs, Expected> {
     Ok(MaskInputs {
         call: call(words)?,
-        hook: field(words, HOOK)?,
+        hook: words.field(Form::Hook)?,
     })
 }
 
@@ -162,8 +150,8 @@ fn mask(words: &mut Words<'_>) -> Result<MaskInputs, Expected> {
 fn digits(words: &mut Words<'_>) -> Result<u64, Expected> {
     match words.next_word() {
         Some(b"-") => Ok(0),
-        Some(word) if word.len() <= 20 => read_key(word).map_err(|_| Expected(DIGITS)),
-        _ => Err(Expected(DIGITS)),
+        Some(word) if word.len() <= 20 => read_key(word).map_err(|_| Expected(Form::KeyDigits)),
+        _ => Err(Expected(Form::KeyDigits)),
     }
 }
 
@@ -172,22 +160,28 @@ fn message<'a>(words: &mut Words<'a>) -> Result<Body<'a>, Expected> {
     match words.next_word() {
         Some(b"-") => Ok(Body::Room(0)),
         Some(word) => Ok(Body::Hex(word)),
-        None => Err(Expected(MESSAGE)),
+        None => Err(Expected(Form::Message)),
     }
 }
 
 // Room for a mask.
 fn room<'a>(words: &mut Words<'_>) -> Result<Body<'a>, Expected> {
-    match words.next_number() {
-        Some(length) if length <= 0xffff => Ok(Body::Room(length as usize)),
-        _ => Err(Expected(LENGTH)),
+    let ShortNumber(length) = words.field(Form::Length)?;
+    if length <= 0xffff {
+        Ok(Body::Room(length as usize))
+    } else {
+        Err(Expected(Form::Length))
     }
 }
 
-// The calculation of this name, with its fields.
-fn read_calculation(name: &[u8], words: &mut Words<'_>) -> Result<Calculation, Fault> {
+// The calculation of this name, with its fields; the body is left as room for nothing where it needs none.
+fn read_calculation<'a>(
+    name: &[u8],
+    words: &mut Words<'a>,
+    body: &mut Body<'a>,
+) -> Result<Calculation, Fault> {
     Ok(match name {
-        b"lfsr" => Calculation::Lfsr(field(words, LFSR)?),
+        b"lfsr" => Calculation::Lfsr(words.field(Form::Lfsr)?),
         b"akey" => Calculation::Digits(digits(words)?),
         b"akey_check" => Calculation::Check(terminal_key(words)?),
         b"ssd" => Calculation::NewSsd(renewal(words)?),
@@ -195,30 +189,29 @@ fn read_calculation(name: &[u8], words: &mut Words<'_>) -> Result<Calculation, F
         b"signleft" => Calculation::SignLeft(challenge(words)?),
         b"cmeakey" => Calculation::CmeaKey(opening(words)?),
         b"vpm" => Calculation::VoiceMask(opening(words)?),
-        b"cmea" => Calculation::Cmea(field(words, SECRET)?),
-        b"kstep" => Calculation::KStep(field(words, K)?),
+        b"cmea" => {
+            let key = words.field(Form::Secret)?;
+            *body = message(words)?;
+            Calculation::Cmea(key)
+        }
+        b"kstep" => Calculation::KStep(words.field(Form::K)?),
         b"datakey" => Calculation::DataKey(call(words)?),
-        b"mask" => Calculation::Mask(mask(words)?),
+        b"mask" => {
+            let inputs = mask(words)?;
+            *body = room(words)?;
+            Calculation::Mask(inputs)
+        }
         b"selftest" => Calculation::SelfTest,
         _ => return Err(Fault::UnknownName),
     })
-}
-
-// The body of a calculation, which stands behind its other fields.
-fn read_body<'a>(calculation: Calculation, words: &mut Words<'a>) -> Result<Body<'a>, Expected> {
-    match calculation {
-        Calculation::Cmea(_) => message(words),
-        Calculation::Mask(_) => room(words),
-        _ => Ok(Body::Room(0)),
-    }
 }
 
 // What a line asks for.
 pub(crate) fn read_line(line: &[u8]) -> Result<Request<'_>, Fault> {
     let mut words = Words::new(line);
     let name = words.next_word().ok_or(Fault::UnknownName)?;
-    let calculation = read_calculation(name, &mut words)?;
-    let body = read_body(calculation, &mut words)?;
+    let mut body = Body::Room(0);
+    let calculation = read_calculation(name, &mut words, &mut body)?;
     match words.next_word() {
         None => Ok(Request { calculation, body }),
         Some(_) => Err(Fault::MoreFields),

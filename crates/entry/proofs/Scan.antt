@@ -1,5 +1,5 @@
 -- Digits read one at a time, and what the first bad one says of the others.
-use Rattle.std.proofs.Common.{◌≡◌, ℕ, zero, suc, ◌+◌, ◌-◌, ◌*◌, ◌/◌, ◌%◌, ◌^◌, ◌<◌, ◌≤◌, min, true, false, List, [], ◌∷◌, map, length, get_or, take, drop, Some, None, Option, sym, refl, ap, ◌∙◌, ⊎_elim, le_of_suc-le-suc, not-suc-le-zero, arith}
+use Rattle.std.proofs.Common.{◌≡◌, ℕ, zero, suc, ◌+◌, ◌-◌, ◌*◌, ◌<◌, ◌≤◌, true, false, List, [], ◌∷◌, map, length, get_or, take, drop, Some, None, Option, arith}
 use Rattle.std.proofs.lemmas.Grind.{common_steps}
 use Rattle.std.proofs.lemmas.List.{map_more, take_all, drop_more, drop_all, at_drop_more, at_drop_all}
 use borrow.Author.Count.{below_more}
@@ -7,13 +7,12 @@ use Rattle.std.proofs.lemmas.Bool.{cond_both}
 use Rattle.std.proofs.lemmas.Int.Digits.{number_push}
 use Rattle.std.specs.Prelude.{if◌then◌else◌}
 use Rattle.std.specs.Char.{is_ascii_digit}
-use Rattle.std.specs.Int.Digits.{number_from_digits}
 use Rattle.entry.specs.Digits.{first_bad, value_of, decimal}
 use Rattle.entry.specs.Entry.{DigitsBelow}
 
 -- one digit more
 pub decimal_more : (bs : List ℕ) (i : ℕ) → i < length bs → decimal (take (i + 1) bs) ≡ decimal (take i bs) * 10 + value_of (get_or bs i 0)
-decimal_more bs i h = ap (number_from_digits 10) (map_more value_of bs i 0 h) ∙ number_push 10 (map value_of (take i bs)) (value_of (get_or bs i 0))
+decimal_more bs i h = rw (map_more value_of bs i 0 h) (number_push 10 (map value_of (take i bs)) _)
 
 -- a digit leads on to the bytes behind it, a byte that is none is the first bad one, and behind the last there is none
 pub bad_at : (bs : List ℕ) (i : ℕ) → i < length bs → first_bad (drop i bs) i ≡ (if is_ascii_digit (get_or bs i 0) then first_bad (drop (i + 1) bs) (i + 1) else Some i)

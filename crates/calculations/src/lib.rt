@@ -18,20 +18,20 @@ use refusal::Refusal;
 use std::fmt;
 
 // What DataKey and table of a call are made of.
-#[derive(Clone, Copy)]
+#[derive(Clone, Copy, PartialEq, Eq, Debug)]
 pub struct CallInputs {
     pub ssd_b: u64,
     pub rand: u32,
 }
 
 // What the mask of a frame is made of: that of its call, and its HOOK.
-#[derive(Clone, Copy)]
+#[derive(Clone, Copy, PartialEq, Eq, Debug)]
 pub struct MaskInputs {
     pub call: CallInputs,
     pub hook: u32,
 }
 
-#[derive(Clone, Copy)]
+#[derive(Clone, Copy, PartialEq, Eq, Debug)]
 pub enum Calculation {
     Lfsr(u32),
     // key digits that were read
@@ -51,7 +51,7 @@ pub enum Calculation {
     SelfTest,
 }
 
-#[derive(Clone, Copy)]
+#[derive(Clone, Copy, PartialEq, Eq, Debug)]
 pub enum Answer {
     Word(u32),
     Key(u64),
@@ -96,7 +96,7 @@ pub fn perform(calculation: Calculation, body: &mut [u8]) -> Result<Answer, Refu
 }
 
 // An answer as it is printed, with the body that may hold it.
-#[derive(Clone, Copy)]
+#[derive(Clone, Copy, PartialEq, Eq, Debug)]
 pub struct Shown<'a> {
     pub answer: Answer,
     pub body: &'a [u8],

@@ -16,6 +16,7 @@ fn read_digits(bytes: &[u8], key_count: usize) -> Result<u64, Refusal>
     ensures { result ≡ digits_read bytes.now key_count }
 {
     let mut key: u64 = 0;
+    // Each digit in turn, with its index, which a refusal tells.
     for (index, byte) in bytes.iter().enumerate() {
         if !byte.is_ascii_digit() {
             return Err(Refusal::NotADigit { index });

@@ -10,12 +10,12 @@ abbrev pub unblanked : List ℕ → List ℕ
 unblanked bs = drop (length (take_while is_blank bs)) bs
 
 -- the bytes in front that are not blank
-abbrev pub solid : List ℕ → List ℕ
-solid bs = take_while (λ b. not (is_blank b)) bs
+abbrev pub word_prefix : List ℕ → List ℕ
+word_prefix bs = take_while (λ b. not (is_blank b)) bs
 
 -- the first word of a line, which is empty only where the line has none
 abbrev pub first_word : List ℕ → List ℕ
-first_word bs = solid (unblanked bs)
+first_word bs = word_prefix (unblanked bs)
 
 -- what stands behind it
 abbrev pub behind_word : List ℕ → List ℕ

@@ -2,7 +2,7 @@
 // library's words of a `str` are parted by; and what reads a word takes bytes.
 ghost use Rattle.std.specs.Prelude.{◌≡◌, length, take_while};
 ghost use Rattle.std.specs.Option.{option_copied};
-ghost use Rattle.fields.specs.Words.{is_blank, solid, first_word, behind_word, unless_empty};
+ghost use Rattle.fields.specs.Words.{is_blank, word_prefix, first_word, behind_word, unless_empty};
 ghost use Rattle.fields.specs.Fields.{or_expected};
 
 use crate::expected::{Expected, Form};
@@ -28,7 +28,7 @@ fn count_blanks(line: &[u8]) -> usize
 
 // How many bytes in front are not.
 fn word_length(text: &[u8]) -> usize
-    ensures { result ≡ length (solid text.now) }
+    ensures { result ≡ length (word_prefix text.now) }
 {
     text.iter().take_while(|&&b| !is_blank(b)).count()
 }

@@ -1,15 +1,25 @@
 // The hex fields of a line of text: two upper-case hex digits to a byte, the high digit first. Public: `read_hex` (a field, into a
-// buffer that says how many bytes it has), `read_array` (a field of a fixed number of bytes), and `Hex`, whose text is such a field.
+// buffer that says how many bytes it has) with its error `NotAField`, `read_array` (a field of a fixed number of bytes), and `Hex`,
+// whose text is such a field. The library `hex` reads lower-case digits too.
 #![tactic(auto)]
 
 ghost use Rattle.std.specs.Prelude.{◌≡◌, ◌↔◌, ◌<◌, length, IsTrue, IsOk, if◌then◌else◌};
 ghost use Rattle.hex_field.specs.Hex.{is_hex, hex_value, all_hex, is_field, field_bytes, field_read};
 
+use std::error::Error;
 use std::fmt;
 
 // The text is no field of as many bytes as were asked for.
 #[derive(Clone, Copy, PartialEq, Eq, Debug)]
 pub struct NotAField;
+
+impl fmt::Display for NotAField {
+    fn fmt<W: fmt::Write>(&self, f: &mut fmt::Formatter<W>) -> fmt::Result {
+        write!(f, "not two upper-case hex digits a byte")
+    }
+}
+
+impl Error for NotAField {}
 
 // Whether a byte is an upper-case hex digit.
 fn is_hex(b: u8) -> bool
@@ -34,7 +44,7 @@ fn value(b: u8) -> u8
 fn all_hex(text: &[u8]) -> bool
     ensures { result ≡ all_hex text.now }
 {
-    text.iter().all(|b| is_hex(*b))
+    text.iter().all(|&b| is_hex(b))
 }
 
 // Reads two upper-case hex digits a byte into the whole of `out`; a text that is not just that leaves `out` as it was.
@@ -46,6 +56,7 @@ pub fn read_hex(text: &[u8], out: &mut [u8]) -> Result<(), NotAField>
     if text.len() != 2 * out.len() || !all_hex(text) {
         return Err(NotAField);
     }
+    // By index: of what is written through a `zip` with pairs of digits nothing is known.
     for (k, byte) in out.iter_mut().enumerate() {
         *byte = value(text[2 * k]) * 16 + value(text[2 * k + 1]);
     }
@@ -62,7 +73,7 @@ pub fn read_array<const N: usize>(text: &[u8]) -> Option<[u8; N]>
 }
 
 // Bytes as they are written in hex.
-#[derive(Clone, Copy)]
+#[derive(Clone, Copy, PartialEq, Eq, Debug)]
 pub struct Hex<'a>(pub &'a [u8]);
 
 impl fmt::Display for Hex<'_> {

@@ -13,7 +13,7 @@ use std::alloc::AllocError;
 struct Held<K: CallKey> {
     opening: OpeningRecord,
     key: K,
-    ghost derived: { K.applied key ≡ K.image opening },
+    ghost derived: { K.material key ≡ K.material_of opening },
 }
 
 // By hand: a derive on a generic type with a ghost field is refused.

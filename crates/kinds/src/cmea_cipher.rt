@@ -4,13 +4,13 @@ ghost use Rattle.cmea.specs.Ciphering.{image as cmea_image};
 ghost use Rattle.kinds.specs.Kinds.{cmea_kind};
 ghost use Rattle.kinds.specs.Laws.{cmea_effect, cmea_lawful};
 
+use crate::call_cipher::CallCipher;
 use crate::call_key::CallKey;
-use crate::keyed::KeyedCipher;
 use auth::keys::cmea_key;
 use auth::types::OpeningRecord;
 use cmea::key::CmeaKey;
 
-pub type CmeaCipher = KeyedCipher<CmeaKey>;
+pub type CmeaCipher = CallCipher<CmeaKey>;
 
 impl CallKey for CmeaKey {
     ghost LEAST = { cmea_kind.least };

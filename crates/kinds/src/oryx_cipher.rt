@@ -3,12 +3,12 @@ ghost use Rattle.oryx.specs.Frames.{call_of, masked};
 ghost use Rattle.kinds.specs.Kinds.{call_material, oryx_kind};
 ghost use Rattle.kinds.specs.Laws.{oryx_effect, oryx_lawful};
 
+use crate::call_cipher::CallCipher;
 use crate::call_key::CallKey;
-use crate::keyed::KeyedCipher;
 use auth::types::OpeningRecord;
 use oryx::call::OryxCall;
 
-pub type OryxCipher = KeyedCipher<OryxCall>;
+pub type OryxCipher = CallCipher<OryxCall>;
 
 impl CallKey for OryxCall {
     ghost LEAST = { oryx_kind.least };

@@ -1,6 +1,9 @@
 // Why ciphering declines.
 ghost use Rattle.std.specs.Prelude.{◌≡◌};
 
+use std::error::Error;
+use std::fmt;
+
 #[derive(Clone, Copy, PartialEq, Eq, Debug)]
 pub enum CipherFault {
     // the cipher was not keyed
@@ -25,3 +28,16 @@ impl CipherFault {
         }
     }
 }
+
+impl fmt::Display for CipherFault {
+    fn fmt<W: fmt::Write>(&self, f: &mut fmt::Formatter<W>) -> fmt::Result {
+        match self {
+            CipherFault::NotKeyed => write!(f, "the cipher was not keyed"),
+            CipherFault::WrongLength { length, layers } => {
+                write!(f, "a body of {length} bytes, {layers} layers below")
+            }
+        }
+    }
+}
+
+impl Error for CipherFault {}

@@ -9,11 +9,11 @@ use cipher::fault::CipherFault;
 use cipher::kind::{Cipher, check_length};
 use std::alloc::AllocError;
 
-// What a keyed cipher keeps: the opening record, and what was derived from it once, so that ciphering derives nothing again.
+// What a keyed one holds: the opening record, and what was derived from it once, so that ciphering derives nothing again.
 struct Held<K: CallKey> {
     opening: OpeningRecord,
     key: K,
-    ghost derived: { K.applied key ≡ K.image opening },
+    ghost derived: { K.material key ≡ K.material_of opening },
 }
 
 // By hand: a derive on a generic type with a ghost field is refused.
@@ -30,20 +30,20 @@ impl<K: CallKey> Clone for Held<K> {
 impl<K: CallKey> Copy for Held<K> {}
 
 #[derive(Clone, Copy)]
-pub struct KeyedCipher<K: CallKey> {
+pub struct CallCipher<K: CallKey> {
     held: Option<Held<K>>,
 }
 
-impl<K: CallKey> KeyedCipher<K> {
+impl<K: CallKey> CallCipher<K> {
     // A cipher that is not keyed.
     pub fn new() -> Self
         ensures { ⟦<Self as Cipher>⟧.keyed result ≡ None }
     {
-        KeyedCipher { held: None }
+        CallCipher { held: None }
     }
 }
 
-impl<K: CallKey> Cipher for KeyedCipher<K> {
+impl<K: CallKey> Cipher for CallCipher<K> {
     ghost keyed = { λ c. option_map (λ held. held.opening) c.held };
 
     ghost kind = { λ c. kind_of K.LEAST K.image };

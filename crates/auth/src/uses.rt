@@ -7,7 +7,7 @@ ghost use Rattle.auth.specs.Reading.{eighteen, ssd_of, signed_of, Reads18};
 ghost use Rattle.auth.specs.Uses.{akey_check_of, new_ssd_of, signature_of};
 
 use crate::load::{blend, halves, load_state, or_if_zero};
-use crate::types::{Challenge, Renewal, RunEnd, Signed, Ssd, TerminalKey};
+use crate::types::{Challenge, Renewal, Signed, Ssd, TerminalKey};
 use cave::state::CaveState;
 use cave::uses::{CaveUse, run};
 
@@ -94,11 +94,7 @@ impl CaveUse for AuthSignature {
     fn read(last: CaveState) -> Signed {
         Signed {
             signature: read_18(last),
-            left: RunEnd {
-                lfsr: last.lfsr,
-                offset1: last.offset1,
-                offset2: last.offset2,
-            },
+            left: last.into(),
         }
     }
 }

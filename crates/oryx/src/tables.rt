@@ -79,7 +79,7 @@ impl KeyStream<'_> {
 }
 
 // The DataKey of SSD_B: its halves, hashed for 32 rounds.
-#[tactic(auto, unfolding(crate::specs::Steps::times, crate::specs::Tables::hash, crate::specs::Tables::hash_start))]
+#[tactic(auto, unfolding(crate::specs::Steps::times))]
 fn data_key(ssd_b: u64) -> u32
     ensures { result ≡ data_key_of ssd_b }
 {

@@ -2,6 +2,7 @@
 use Rattle.std.specs.Prelude.{◌≡◌, ℕ, ◌+◌, ◌*◌, ◌/◌, ◌%◌, ◌^◌, bit_xor, slice_index}
 use Rattle.cave.specs.Bytes.{wide, part}
 use Rattle.cave.specs.declared.state.CaveState.{CaveState}
+use Rattle.auth.specs.declared.types.RunEnd.{RunEnd}
 use Rattle.auth.specs.declared.types.Ssd.{Ssd}
 use Rattle.auth.specs.declared.types.Signed.{Signed}
 
@@ -23,6 +24,10 @@ pub record Reads18 (m : CaveState) (r : ℕ) : Type 0 where
 abbrev pub ssd_of : CaveState → Ssd
 ssd_of m = record { a = wide 8 (part m.registers 0 8); b = wide 8 (part m.registers 8 8) }
 
+-- what a run of CAVE leaves for the next one
+abbrev pub run_end_of : CaveState → RunEnd
+run_end_of m = record { lfsr = m.lfsr; offset1 = m.offset1; offset2 = m.offset2 }
+
 -- a signature with what its run leaves
 abbrev pub signed_of : CaveState → Signed
-signed_of m = record { signature = eighteen m; left = record { lfsr = m.lfsr; offset1 = m.offset1; offset2 = m.offset2 } }
+signed_of m = record { signature = eighteen m; left = run_end_of m }

@@ -53,6 +53,7 @@ fn key_and_state(of: OpeningRecord) -> ([u8; 8], CaveState)
     let two = iterate(of.rand, one);
     let a = one.registers;
     let b = two.registers;
+    // Listed: in a loop the state and the index of each byte would be a quotient and a remainder by 4.
     let key = [
         a[4] ^ a[8],
         a[5] ^ a[9],
@@ -73,6 +74,7 @@ fn mask_bytes(of: OpeningRecord, two: CaveState) -> [u8; 65]
 {
     let mut m = two;
     let mut out = [0; 65];
+    // By `enumerate`: after a loop over `chunks_mut(6)` nothing is known of the bytes that it wrote.
     for (k, byte) in out.iter_mut().enumerate() {
         let at = k % 6;
         if at == 0 {

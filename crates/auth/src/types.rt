@@ -1,4 +1,8 @@
 // What the uses of CAVE take and give. Wide numbers stand most significant byte first.
+ghost use Rattle.std.specs.Prelude.{◌≡◌};
+ghost use Rattle.auth.specs.Reading.{run_end_of};
+
+use cave::state::CaveState;
 
 // AUTH_DATA: 24 bits of the message that a signature is for.
 #[derive(Clone, Copy, PartialEq, Eq, Debug)]
@@ -45,6 +49,18 @@ pub struct RunEnd {
     pub lfsr: u32,
     pub offset1: u8,
     pub offset2: u8,
+}
+
+impl From<CaveState> for RunEnd {
+    ghost from_gives = { λ last end. end ≡ run_end_of last };
+
+    fn from(last: CaveState) -> RunEnd {
+        RunEnd {
+            lfsr: last.lfsr,
+            offset1: last.offset1,
+            offset2: last.offset2,
+        }
+    }
 }
 
 // A signature of 18 bits, with what its run leaves.

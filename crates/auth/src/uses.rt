@@ -7,7 +7,7 @@ ghost use Rattle.auth.specs.Reading.{eighteen, ssd_of, signed_of, Reads18};
 ghost use Rattle.auth.specs.Uses.{akey_check_of, new_ssd_of, signature_of};
 
 use crate::load::{blend, halves, load_state, or_if_zero};
-use crate::types::{Challenge, Renewal, RunEnd, Signed, Ssd, TerminalKey};
+use crate::types::{Challenge, Renewal, Signed, Ssd, TerminalKey};
 use cave::state::CaveState;
 use cave::uses::{CaveUse, run};
 
@@ -67,10 +67,10 @@ impl CaveUse for SsdGeneration {
 
     #[tactic(auto, unfolding(cave::specs::Bytes::wide))]
     fn read(last: CaveState) -> Ssd {
-        let r = last.registers;
+        let whole = u128::from_be_bytes(last.registers);
         Ssd {
-            a: u64::from_be_bytes([r[0], r[1], r[2], r[3], r[4], r[5], r[6], r[7]]),
-            b: u64::from_be_bytes([r[8], r[9], r[10], r[11], r[12], r[13], r[14], r[15]]),
+            a: (whole >> 64) as u64,
+            b: (whole % 0x1_0000_0000_0000_0000) as u64,
         }
     }
 }
@@ -94,11 +94,7 @@ impl CaveUse for AuthSignature {
     fn read(last: CaveState) -> Signed {
         Signed {
             signature: read_18(last),
-            left: RunEnd {
-                lfsr: last.lfsr,
-                offset1: last.offset1,
-                offset2: last.offset2,
-            },
+            left: last.into(),
         }
     }
 }

@@ -14,5 +14,6 @@ pub fn lfsr_cycle(lfsr: u32) -> u32
 pub(crate) fn raise_d(lfsr: u32) -> u32
     ensures { result ≡ d_raised lfsr }
 {
-    lfsr - lfsr % 256 + (lfsr % 256 + 1) % 256
+    let [a, b, c, d] = lfsr.to_be_bytes();
+    u32::from_be_bytes([a, b, c, d.wrapping_add(1)])
 }

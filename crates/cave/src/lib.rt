@@ -39,9 +39,11 @@ fn mix(start: CaveState) -> CaveState
     // By index: register i + 1 is read while register i is written.
     for i in 0..16 {
         let r = m.registers[i];
+        // Written once, for either side, and here in the loop, since it searches for the half bytes of this register.
         let search = |side: Side, mut lfsr: u32, mut offset: u8|
             ensures { result ≡ tried side 32 r 0 lfsr offset }
         {
+            // The tries left, counted down by hand: `break` leaves the loop with the half byte, found or forced on the 32nd try.
             let mut left: u8 = 32;
             let half = loop {
                 offset = offset.wrapping_add(side.stage(lfsr) ^ r);

@@ -14,10 +14,10 @@ impl Side {
     pub(crate) fn stage(self, lfsr: u32) -> u8
         ensures { result ≡ stage_of self lfsr }
     {
-        let bytes = lfsr.to_be_bytes();
+        let [a, b, ..] = lfsr.to_be_bytes();
         match self {
-            Side::Low => bytes[0],
-            Side::High => bytes[1],
+            Side::Low => a,
+            Side::High => b,
         }
     }
 

@@ -59,7 +59,8 @@ impl CmeaKey {
         self.at(z ^ (i % 256) as u8)
     }
 
-    // The first pass. It stays apart from the third: one loop for both, over a closure that gives two bytes, is longer.
+    // The first pass. It stays apart from the third: one loop for both, over a closure that gives the new byte and the byte to be
+    // summed, took 31 lines in place of 21, and two `requires`.
     #[tactic(auto, unfolding(crate::specs::Passes::first_pass))]
     fn raise(&self, message: &mut [u8])
         ensures { message.new ≡ first_pass (tbox self.now.bytes) 0 0 message.old }
@@ -109,6 +110,7 @@ fn fold(message: &mut [u8])
     ensures { message.new ≡ second_pass message.old }
 {
     let (front, back) = message.split_at_mut(message.len() / 2);
+    // By index from the end: after a `zip` over `iter_mut` nothing is known of the bytes that it wrote.
     for (i, near) in front.iter_mut().enumerate() {
         *near ^= back[back.len() - 1 - i] | 1;
     }

@@ -18,22 +18,22 @@ unfoldable pub hash_table : ℕ → List ℕ
 hash_table k = map (λ i. high (times (i + 1) step_k k)) (range_with_len 0 256)
 
 -- a key byte enters a word from the right: the word moves left by 9 places
-abbrev pub entered : ℕ → ℕ → ℕ
-entered w byte = (w * 2 ^ 9 + byte) % 2 ^ 32
+abbrev pub shift_in : ℕ → ℕ → ℕ
+shift_in w byte = (w * 2 ^ 9 + byte) % 2 ^ 32
 
 -- a key byte takes the place of the second byte of K, and is ANDed into the third
-abbrev pub mixed : ℕ → ℕ → ℕ
-mixed k byte = bit_and (bit_and k 0xFF00FFFF + byte * 2 ^ 16) (0xFFFF00FF + byte * 2 ^ 8)
+abbrev pub mix_in : ℕ → ℕ → ℕ
+mix_in k byte = bit_and (bit_and k 0xFF00FFFF + byte * 2 ^ 16) (0xFFFF00FF + byte * 2 ^ 8)
 
 -- the key byte of the registers into A, into B and into K
 abbrev pub into_a : List ℕ → Registers → Registers
-into_a table s = record s { a = entered s.a (key_byte table s) }
+into_a table s = record s { a = shift_in s.a (key_byte table s) }
 
 abbrev pub into_b : List ℕ → Registers → Registers
-into_b table s = record s { b = entered s.b (key_byte table s) }
+into_b table s = record s { b = shift_in s.b (key_byte table s) }
 
 abbrev pub into_k : List ℕ → Registers → Registers
-into_k table s = record s { k = mixed s.k (key_byte table s) }
+into_k table s = record s { k = mix_in s.k (key_byte table s) }
 
 -- one round of the hash: three key bytes, one into each register
 unfoldable pub hash_round : List ℕ → Registers → Registers

@@ -4,7 +4,7 @@ ghost use Rattle.std.specs.List.{range_with_len};
 ghost use Rattle.oryx.specs.Steps.{times, step_k};
 ghost use Rattle.oryx.specs.Laws.{EachOnce, StartsApart};
 ghost use Rattle.oryx.specs.Frames.{call_of};
-ghost use Rattle.oryx.specs.Tables.{call_table, hash_table, entered, mixed, hash_round, data_key_of};
+ghost use Rattle.oryx.specs.Tables.{call_table, hash_table, shift_in, mix_in, hash_round, data_key_of};
 
 use crate::call::OryxCall;
 use crate::key_stream::KeyStream;
@@ -48,15 +48,15 @@ fn hash_table(start: u32) -> ([u8; 256], u32)
 }
 
 // A key byte enters a word from the right: the word moves left by 9 places.
-fn entered(w: u32, byte: u8) -> u32
-    ensures { result ≡ entered w byte }
+fn shift_in(w: u32, byte: u8) -> u32
+    ensures { result ≡ shift_in w byte }
 {
     (w << 9).wrapping_add(byte as u32)
 }
 
 // A key byte takes the place of the second byte of K, and is ANDed into the third.
-fn mixed(k: u32, byte: u8) -> u32
-    ensures { result ≡ mixed k byte }
+fn mix_in(k: u32, byte: u8) -> u32
+    ensures { result ≡ mix_in k byte }
 {
     let byte = byte as u32;
     ((k & 0xff00_ffff) + (byte << 16)) & (0xffff_00ff + (byte << 8))
@@ -70,19 +70,20 @@ impl KeyStream<'_> {
         ensures table { self.new.table ≡ self.old.table }
     {
         let byte = self.next_byte();
-        self.registers.a = entered(self.registers.a, byte);
+        self.registers.a = shift_in(self.registers.a, byte);
         let byte = self.next_byte();
-        self.registers.b = entered(self.registers.b, byte);
+        self.registers.b = shift_in(self.registers.b, byte);
         let byte = self.next_byte();
-        self.registers.k = mixed(self.registers.k, byte);
+        self.registers.k = mix_in(self.registers.k, byte);
     }
 }
 
 // The DataKey of SSD_B: its halves, hashed for 32 rounds.
-#[tactic(auto, unfolding(crate::specs::Steps::times, crate::specs::Tables::hash, crate::specs::Tables::hash_start))]
+#[tactic(auto, unfolding(crate::specs::Steps::times))]
 fn data_key(ssd_b: u64) -> u32
     ensures { result ≡ data_key_of ssd_b }
 {
+    // The halves, for which `auth` has a function; this crate stands on no other.
     let a = (ssd_b >> 32) as u32;
     let b = (ssd_b % 0x1_0000_0000) as u32;
     let (table, k) = hash_table(a ^ b);

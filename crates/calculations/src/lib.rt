@@ -61,7 +61,7 @@ pub enum Answer {
     CmeaKey([u8; 8]),
     VoiceMask([u8; 65]),
     Call(OryxCall),
-    // the body holds it
+    // the body holds it, memory that the caller lends
     InBody,
     Passed(bool),
 }

@@ -1,4 +1,4 @@
-// Why ciphering declines.
+// Why ciphering declines. Apart from the library's refusals, whose table stands above the ciphers.
 ghost use Rattle.std.specs.Prelude.{◌≡◌};
 
 use std::error::Error;

@@ -11,6 +11,7 @@ use auth::types::OpeningRecord;
 // The most bytes that a head has.
 const MOST_HEAD: u8 = 8;
 
+// Clauses name both fields: a `Model` would show the same two.
 #[derive(Clone, Copy, Drop)]
 pub struct ClearHead<C> {
     head: u8,

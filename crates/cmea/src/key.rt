@@ -8,6 +8,7 @@ use cave::table::entry;
 use refusal::Refusal;
 use std::array;
 
+// Clauses name `bytes`: a `Model` would show the same.
 #[derive(Clone, Copy, PartialEq, Eq, Debug)]
 pub struct CmeaKey {
     bytes: [u8; 8],

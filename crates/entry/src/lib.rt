@@ -28,7 +28,7 @@ fn read_digits(bytes: &[u8], key_count: usize) -> Result<u64, Refusal>
     Ok(key)
 }
 
-// The value of a digit.
+// The value of a digit, and 0 for what is below one. No `Option`: it stands for a digit only where all bytes are digits.
 fn digit(byte: u8) -> u32
     ensures { result ≡ value_of byte }
 {

@@ -8,6 +8,7 @@ ghost use Rattle.fields.specs.Fields.{or_expected};
 use crate::expected::{Expected, Form};
 use crate::field::Field;
 
+// Clauses name the field: a `Model` would show the same bytes.
 #[derive(Clone, Copy)]
 pub struct Words<'a> {
     rest: &'a [u8],
@@ -26,7 +27,7 @@ fn count_blanks(line: &[u8]) -> usize
     line.iter().take_while(|&&b| is_blank(b)).count()
 }
 
-// How many bytes in front are not.
+// How many bytes in front are not. Two functions of one line: the test that they would share is the word `not`.
 fn word_length(text: &[u8]) -> usize
     ensures { result ≡ length (word_prefix text.now) }
 {

@@ -12,6 +12,7 @@ const AAV: u8 = 0xc7;
 pub(crate) fn load_state(lfsr: u32, secret: u64, three: [u8; 3], esn: u32) -> CaveState
     ensures { result ≡ loading lfsr secret three esn }
 {
+    // AAV is left in R8 alone.
     let mut registers = [AAV; 16];
     registers[..8].copy_from_slice(&secret.to_be_bytes());
     registers[9..12].copy_from_slice(&three);

@@ -1,14 +1,14 @@
-// Why ciphering declines. Apart from the library's refusals, whose table stands above the ciphers.
+// Why ciphering declines. Apart from the library's refusals: in their table there is no case yet for a cipher that was not keyed.
 ghost use Rattle.std.specs.Prelude.{◌≡◌};
 
-use std::error::Error;
-use std::fmt;
+use thiserror::Error;
 
-#[derive(Clone, Copy, PartialEq, Eq, Debug)]
+#[derive(Clone, Copy, PartialEq, Eq, Debug, Error)]
 pub enum CipherFault {
-    // the cipher was not keyed
+    #[error("the cipher was not keyed")]
     NotKeyed,
     // a body of a length that the kind does not take, with how many layers lie above the one that saw this length
+    #[error("a body of {length} bytes, seen {layers} layers below")]
     WrongLength { length: usize, layers: u32 },
 }
 
@@ -28,16 +28,3 @@ impl CipherFault {
         }
     }
 }
-
-impl fmt::Display for CipherFault {
-    fn fmt<W: fmt::Write>(&self, f: &mut fmt::Formatter<W>) -> fmt::Result {
-        match self {
-            CipherFault::NotKeyed => write!(f, "the cipher was not keyed"),
-            CipherFault::WrongLength { length, layers } => {
-                write!(f, "a body of {length} bytes, {layers} layers below")
-            }
-        }
-    }
-}
-
-impl Error for CipherFault {}

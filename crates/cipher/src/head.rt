@@ -11,7 +11,7 @@ use auth::types::OpeningRecord;
 // The most bytes that a head has.
 const MOST_HEAD: u8 = 8;
 
-// Clauses name both fields: a `Model` would show the same two.
+// The fields are private, so that no head is longer than 8; clauses name what `new` was given.
 #[derive(Clone, Copy, Drop)]
 pub struct ClearHead<C> {
     head: u8,
@@ -47,6 +47,7 @@ impl<C: Cipher> Cipher for ClearHead<C> {
     }
 
     fn cipher(&self, hook: u32, body: &mut [u8]) -> Result<(), CipherFault> {
+        // First, as everywhere: only then is the length looked at.
         if !self.below.is_keyed() {
             return Err(CipherFault::NotKeyed);
         }

@@ -8,10 +8,9 @@ use cave::table::entry;
 use refusal::Refusal;
 use std::array;
 
-// Clauses name `bytes`: a `Model` would show the same.
 #[derive(Clone, Copy, PartialEq, Eq, Debug)]
 pub struct CmeaKey {
-    bytes: [u8; 8],
+    pub bytes: [u8; 8],
     substitution: [u8; 256],
     ghost made: { (z : ℕ) → z < 256 → slice_index substitution z ≡ tbox bytes z },
 }
@@ -23,7 +22,7 @@ fn look_up(first: u8, second: u8, z: u8, r: u8) -> u8
     z.wrapping_add(entry((r ^ first).wrapping_add(second)))
 }
 
-// The substitution of z.
+// The substitution of z: four look-ups in a row, as its definition has them. A loop over pairs would need an invariant of its own.
 #[tactic(auto, unfolding(crate::specs::Substitution::tbox))]
 fn substitute(key: [u8; 8], z: u8) -> u8
     ensures { result ≡ tbox key z }

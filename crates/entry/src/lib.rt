@@ -22,13 +22,13 @@ fn read_digits(bytes: &[u8], key_count: usize) -> Result<u64, Refusal>
             return Err(Refusal::NotADigit { index });
         }
         if index < key_count {
-            key = key.wrapping_mul(10).wrapping_add((*byte - b'0') as u64);
+            key = key.wrapping_mul(10).wrapping_add(digit(*byte) as u64);
         }
     }
     Ok(key)
 }
 
-// The value of a digit, and 0 for what is below one. No `Option`: it stands for a digit only where all bytes are digits.
+// The value of a digit, and 0 for what is below one. No `Option`: what it gives is used only once all bytes are known to be digits.
 fn digit(byte: u8) -> u32
     ensures { result ≡ value_of byte }
 {

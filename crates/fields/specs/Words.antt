@@ -1,5 +1,5 @@
 -- The words of a line, which blanks part.
-use Rattle.std.specs.Prelude.{ℕ, Bool, if◌then◌else◌, not, ◌||◌, List, length, take_while, drop, Some, None, Option, ◌==◌}
+use Rattle.std.specs.Prelude.{ℕ, Bool, if◌then◌else◌, not, ◌||◌, List, length, take_while, drop, Some, None, Option, ◌==◌, ◌&&◌, [], slice_index}
 
 -- a space, a tab or a carriage return
 abbrev pub is_blank : ℕ → Bool
@@ -24,3 +24,7 @@ behind_word bs = drop (length (first_word bs)) (unblanked bs)
 -- a word, or none where it is empty
 abbrev pub unless_empty : List ℕ → Option (List ℕ)
 unless_empty bs = if length bs == 0 then None else Some bs
+
+-- a text, or an empty one where it is a dash
+abbrev pub unless_dash : List ℕ → List ℕ
+unless_dash bs = if length bs == 1 && slice_index bs 0 == 0x2D then [] else bs

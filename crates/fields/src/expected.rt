@@ -1,6 +1,6 @@
 // What was expected in the place of what a line has.
-use std::error::Error;
 use std::fmt;
+use thiserror::Error;
 
 // The form of a field.
 #[derive(Clone, Copy, PartialEq, Eq, Debug)]
@@ -41,13 +41,6 @@ impl fmt::Display for Form {
 }
 
 // A field of this form is missing, or stands there in another form.
-#[derive(Clone, Copy, PartialEq, Eq, Debug)]
+#[derive(Clone, Copy, PartialEq, Eq, Debug, Error)]
+#[error("expected {0}")]
 pub struct Expected(pub Form);
-
-impl fmt::Display for Expected {
-    fn fmt<W: fmt::Write>(&self, f: &mut fmt::Formatter<W>) -> fmt::Result {
-        write!(f, "expected {}", self.0)
-    }
-}
-
-impl Error for Expected {}

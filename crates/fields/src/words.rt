@@ -1,17 +1,17 @@
-// The words of a line, taken one by one from the front. Only a space, a tab and a carriage return part them, fewer bytes than the
-// library's words of a `str` are parted by; and what reads a word takes bytes.
+// The words of a line, taken one by one from the front. They are bytes and no `str`, since what reads a word takes bytes: key digits are
+// bytes as they were typed.
 ghost use Rattle.std.specs.Prelude.{◌≡◌, length, take_while};
 ghost use Rattle.std.specs.Option.{option_copied};
-ghost use Rattle.fields.specs.Words.{is_blank, word_prefix, first_word, behind_word, unless_empty};
+ghost use Rattle.fields.specs.Words.{is_blank, word_prefix, first_word, behind_word, unless_empty, unless_dash};
 ghost use Rattle.fields.specs.Fields.{or_expected};
 
 use crate::expected::{Expected, Form};
 use crate::field::Field;
 
-// Clauses name the field: a `Model` would show the same bytes.
-#[derive(Clone, Copy)]
+// What is left of a line. No `Iterator`: its members would speak of all words of the line at once, and a clause here of the next one.
+#[derive(Clone, Copy, PartialEq, Eq, Debug)]
 pub struct Words<'a> {
-    rest: &'a [u8],
+    pub rest: &'a [u8],
 }
 
 fn is_blank(byte: u8) -> bool
@@ -27,7 +27,7 @@ fn count_blanks(line: &[u8]) -> usize
     line.iter().take_while(|&&b| is_blank(b)).count()
 }
 
-// How many bytes in front are not. Two functions of one line: the test that they would share is the word `not`.
+// How many bytes in front are not. One line each: one function for both would need a closure and a clause over it.
 fn word_length(text: &[u8]) -> usize
     ensures { result ≡ length (word_prefix text.now) }
 {
@@ -60,5 +60,15 @@ impl<'a> Words<'a> {
     {
         let word = self.next_word().ok_or(Expected(form))?;
         F::read(word).ok_or(Expected(form))
+    }
+}
+
+// The text that a word writes: `-` stands for an empty one.
+pub fn text_of(word: &[u8]) -> &[u8]
+    ensures { result.now ≡ unless_dash word.now }
+{
+    match word {
+        b"-" => &[],
+        _ => word,
     }
 }

@@ -6,20 +6,13 @@
 ghost use Rattle.std.specs.Prelude.{◌≡◌, ◌↔◌, ◌<◌, length, IsTrue, IsOk, if◌then◌else◌};
 ghost use Rattle.hex_field.specs.Hex.{is_hex, hex_value, all_hex, is_field, field_bytes, field_read};
 
-use std::error::Error;
 use std::fmt;
+use thiserror::Error;
 
 // The text is no field of as many bytes as were asked for.
-#[derive(Clone, Copy, PartialEq, Eq, Debug)]
+#[derive(Clone, Copy, PartialEq, Eq, Debug, Error)]
+#[error("not two upper-case hex digits for each byte that was asked for")]
 pub struct NotAField;
-
-impl fmt::Display for NotAField {
-    fn fmt<W: fmt::Write>(&self, f: &mut fmt::Formatter<W>) -> fmt::Result {
-        write!(f, "not two upper-case hex digits a byte")
-    }
-}
-
-impl Error for NotAField {}
 
 // Whether a byte is an upper-case hex digit.
 fn is_hex(b: u8) -> bool

@@ -1,9 +1,8 @@
 // Reading a line: ESN, the typed digits, RANDSSD, RAND and AUTH_DATA.
 use crate::terminal::Numbers;
 use fields::expected::{Expected, Form};
-use fields::words::Words;
-use std::error::Error;
-use std::fmt;
+use fields::words::{Words, text_of};
+use thiserror::Error;
 
 // A terminal to key.
 #[derive(Clone, Copy)]
@@ -14,37 +13,17 @@ pub struct Request<'a> {
 }
 
 // Why a line cannot be read.
-#[derive(Clone, Copy, PartialEq, Eq, Debug)]
+#[derive(Clone, Copy, PartialEq, Eq, Debug, Error)]
 pub(crate) enum Fault {
-    // a field is missing, or does not have the form of its name
-    Field(Expected),
+    #[error("{0}")]
+    Field(#[from] Expected),
+    #[error("expected no more than five fields")]
     MoreFields,
-}
-
-impl fmt::Display for Fault {
-    fn fmt<W: fmt::Write>(&self, f: &mut fmt::Formatter<W>) -> fmt::Result {
-        match self {
-            Fault::Field(expected) => write!(f, "{expected}"),
-            Fault::MoreFields => write!(f, "expected no more than five fields"),
-        }
-    }
-}
-
-impl Error for Fault {}
-
-impl From<Expected> for Fault {
-    fn from(expected: Expected) -> Fault {
-        Fault::Field(expected)
-    }
 }
 
 // The digits as they were typed.
 fn read_typed<'a>(words: &mut Words<'a>) -> Result<&'a [u8], Expected> {
-    match words.next_word() {
-        Some(b"-") => Ok(&[]),
-        Some(word) => Ok(word),
-        None => Err(Expected(Form::TypedDigits)),
-    }
+    Ok(text_of(words.next_word().ok_or(Expected(Form::TypedDigits))?))
 }
 
 // The request of a line.

@@ -17,13 +17,13 @@ fn answer(rt: &impl Print, heap: Global, line: &str) -> io::Result<()> {
     };
     let mut body = Vec::from_elem(heap, 0, request.body.length())?;
     match request.answer(&mut body) {
-        Ok(answer) => println!(rt;
-            "{line} -> {}",
-            Shown {
+        Ok(answer) => {
+            let shown = Shown {
                 answer,
-                body: &body
-            }
-        ),
+                body: &body,
+            };
+            println!(rt; "{line} -> {shown}")
+        }
         Err(fault) => println!(rt; "{line} -> error: {fault}"),
     }
 }

@@ -4,11 +4,10 @@ use calculations::{Answer, Calculation, CallInputs, MaskInputs, perform};
 use entry::read_key;
 use fields::expected::{Expected, Form};
 use fields::field::ShortNumber;
-use fields::words::Words;
+use fields::words::{Words, text_of};
 use hex_field::read_hex;
 use refusal::Refusal;
-use std::error::Error;
-use std::fmt;
+use thiserror::Error;
 
 // What a line asks for: a calculation, and the body that it works on.
 #[derive(Clone, Copy)]
@@ -53,39 +52,16 @@ impl Request<'_> {
 }
 
 // Why a line cannot be answered.
-#[derive(Clone, Copy, PartialEq, Eq, Debug)]
+#[derive(Clone, Copy, PartialEq, Eq, Debug, Error)]
 pub enum Fault {
+    #[error("no such calculation")]
     UnknownName,
-    // a field is missing, or does not have the form of its name
-    Field(Expected),
+    #[error("{0}")]
+    Field(#[from] Expected),
+    #[error("more fields than it takes")]
     MoreFields,
-    // the calculation is refused
-    Refused(Refusal),
-}
-
-impl fmt::Display for Fault {
-    fn fmt<W: fmt::Write>(&self, f: &mut fmt::Formatter<W>) -> fmt::Result {
-        match self {
-            Fault::UnknownName => write!(f, "no such calculation"),
-            Fault::Field(expected) => write!(f, "{expected}"),
-            Fault::MoreFields => write!(f, "more fields than it takes"),
-            Fault::Refused(refusal) => write!(f, "{refusal}"),
-        }
-    }
-}
-
-impl Error for Fault {}
-
-impl From<Expected> for Fault {
-    fn from(expected: Expected) -> Fault {
-        Fault::Field(expected)
-    }
-}
-
-impl From<Refusal> for Fault {
-    fn from(refusal: Refusal) -> Fault {
-        Fault::Refused(refusal)
-    }
+    #[error("{0}")]
+    Refused(#[from] Refusal),
 }
 
 fn terminal_key(words: &mut Words<'_>) -> Result<TerminalKey, Expected> {
@@ -148,20 +124,18 @@ fn mask(words: &mut Words<'_>) -> Result<MaskInputs, Expected> {
 
 // The key digits of an A-key, at most 20.
 fn digits(words: &mut Words<'_>) -> Result<u64, Expected> {
-    match words.next_word() {
-        Some(b"-") => Ok(0),
-        Some(word) if word.len() <= 20 => read_key(word).map_err(|_| Expected(Form::KeyDigits)),
-        _ => Err(Expected(Form::KeyDigits)),
+    let expected = Expected(Form::KeyDigits);
+    let digits = text_of(words.next_word().ok_or(expected)?);
+    if digits.len() > 20 {
+        return Err(expected);
     }
+    read_key(digits).map_err(|_| expected)
 }
 
 // A message, of which the digits are read later.
 fn message<'a>(words: &mut Words<'a>) -> Result<Body<'a>, Expected> {
-    match words.next_word() {
-        Some(b"-") => Ok(Body::Room(0)),
-        Some(word) => Ok(Body::Hex(word)),
-        None => Err(Expected(Form::Message)),
-    }
+    let word = words.next_word().ok_or(Expected(Form::Message))?;
+    Ok(Body::Hex(text_of(word)))
 }
 
 // Room for a mask.
@@ -174,13 +148,10 @@ fn room<'a>(words: &mut Words<'_>) -> Result<Body<'a>, Expected> {
     }
 }
 
-// The calculation of this name, with its fields; the body is left as room for nothing where it needs none.
-fn read_calculation<'a>(
-    name: &[u8],
-    words: &mut Words<'a>,
-    body: &mut Body<'a>,
-) -> Result<Calculation, Fault> {
-    Ok(match name {
+// The calculation of this name, with its fields and then its body; most have none.
+fn read_request<'a>(name: &[u8], words: &mut Words<'a>) -> Result<Request<'a>, Fault> {
+    let mut body = Body::Room(0);
+    let calculation = match name {
         b"lfsr" => Calculation::Lfsr(words.field(Form::Lfsr)?),
         b"akey" => Calculation::Digits(digits(words)?),
         b"akey_check" => Calculation::Check(terminal_key(words)?),
@@ -191,29 +162,29 @@ fn read_calculation<'a>(
         b"vpm" => Calculation::VoiceMask(opening(words)?),
         b"cmea" => {
             let key = words.field(Form::Secret)?;
-            *body = message(words)?;
+            body = message(words)?;
             Calculation::Cmea(key)
         }
         b"kstep" => Calculation::KStep(words.field(Form::K)?),
         b"datakey" => Calculation::DataKey(call(words)?),
         b"mask" => {
             let inputs = mask(words)?;
-            *body = room(words)?;
+            body = room(words)?;
             Calculation::Mask(inputs)
         }
         b"selftest" => Calculation::SelfTest,
         _ => return Err(Fault::UnknownName),
-    })
+    };
+    Ok(Request { calculation, body })
 }
 
 // What a line asks for.
 pub(crate) fn read_line(line: &[u8]) -> Result<Request<'_>, Fault> {
     let mut words = Words::new(line);
     let name = words.next_word().ok_or(Fault::UnknownName)?;
-    let mut body = Body::Room(0);
-    let calculation = read_calculation(name, &mut words, &mut body)?;
+    let request = read_request(name, &mut words)?;
     match words.next_word() {
-        None => Ok(Request { calculation, body }),
+        None => Ok(request),
         Some(_) => Err(Fault::MoreFields),
     }
 }

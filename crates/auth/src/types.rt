@@ -1,5 +1,5 @@
-// What the uses of CAVE take and give, each with the fields that the standard names for it; what two of them share is named in
-// both. Wide numbers stand most significant byte first.
+// What the uses of CAVE take and give, each with the fields that the standard names for it; what two of them share stands in
+// both, since a type between would be one name more to go through. Wide numbers stand most significant byte first.
 ghost use Rattle.std.specs.Prelude.{◌≡◌};
 ghost use Rattle.auth.specs.Reading.{run_end_of};
 

@@ -99,6 +99,8 @@ impl CaveUse for AuthSignature {
     }
 }
 
+// Each of these three promises by itself that its answer is read off a whole run: a caller sees no more than the call.
+
 // The check of an A-key: 18 bits.
 #[tactic(auto, using(crate::proofs::Crossed::crossed_below))]
 pub fn akey_check(of: TerminalKey) -> u32

@@ -22,8 +22,8 @@ pub trait Cipher {
     fn is_keyed(&self) -> bool
         ensures { result ≡ is_some (keyed self.now) };
 
-    // Enciphers or deciphers the body of a frame in place; the two are the same. A refused body stays as it was. The HOOK stands beside
-    // the body and not with it, since the body is lent to be changed.
+    // Enciphers or deciphers the body of a frame in place; the two are the same. A refused body stays as it was. The HOOK stands
+    // beside the body and not with it, since the body is lent to be changed.
     fn cipher(&self, hook: u32, body: &mut [u8]) -> Result<(), CipherFault>
         ensures answer { result ≡ answers (kind self.now) (keyed self.now) (length body.old) }
         ensures after { body.new ≡ ciphered (kind self.now) (keyed self.now) hook body.old };

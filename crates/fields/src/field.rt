@@ -1,5 +1,5 @@
-// Values that a word of a line writes in hex, the most significant digit first. There are impls of one shape, since the gate refuses an
-// impl that a macro of this repository wrote.
+// Values that a word of a line writes in hex, the most significant digit first. There are impls of one shape, since the gate
+// refuses an impl that a macro of this repository wrote.
 ghost use Rattle.std.specs.Prelude.{◌≡◌, ℕ, ◌≤◌, [], List, length, refl, None, Option};
 ghost use Rattle.std.specs.Option.{option_map};
 ghost use Rattle.fields.specs.Fields.{number_read, auth_data_read, rand_ssd_read, padded, short_number_read};

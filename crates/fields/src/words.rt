@@ -1,5 +1,5 @@
-// The words of a line, taken one by one from the front. They are bytes and no `str`, since what reads a word takes bytes: key digits are
-// bytes as they were typed.
+// The words of a line, taken one by one from the front. They are bytes and no `str`, since what reads a word takes bytes: key
+// digits are bytes as they were typed.
 ghost use Rattle.std.specs.Prelude.{◌≡◌, length, take_while};
 ghost use Rattle.std.specs.Option.{option_copied};
 ghost use Rattle.fields.specs.Words.{is_blank, word_prefix, first_word, behind_word, unless_empty, unless_dash};
@@ -8,7 +8,8 @@ ghost use Rattle.fields.specs.Fields.{or_expected};
 use crate::expected::{Expected, Form};
 use crate::field::Field;
 
-// What is left of a line. No `Iterator`: its members would speak of all words of the line at once, and a clause here of the next one.
+// What is left of a line. No `Iterator`: its members would speak of all words of the line at once, and a clause here speaks of
+// the next one.
 #[derive(Clone, Copy, PartialEq, Eq, Debug)]
 pub struct Words<'a> {
     pub rest: &'a [u8],

@@ -3,9 +3,8 @@
 #![tactic(auto)]
 
 ghost use Rattle.std.specs.Prelude.{◌≡◌};
-ghost use Rattle.refusal.specs.Refusals.{number_of, told_of};
+ghost use Rattle.refusal.specs.Refusals.{number_of, told_of, values};
 
-use arrayvec::ArrayVec;
 use std::error::Error;
 use std::fmt;
 
@@ -21,6 +20,14 @@ pub enum Refusal {
     WrongLength { length: usize, layers: u32 },
 }
 
+// The values told with a refusal. An enum and no list in fixed room: the kit's `ArrayVec` is not `Copy`.
+#[derive(Clone, Copy, PartialEq, Eq, Debug)]
+pub enum Told {
+    Nothing,
+    One(u64),
+    Two(u64, u64),
+}
+
 impl Refusal {
     // The number of the case. A method and no `From`, since `u8::from(refusal)` would not say which number that is.
     pub fn number(&self) -> u8
@@ -34,32 +41,28 @@ impl Refusal {
         }
     }
 
-    // The values told with it.
-    pub fn told(&self) -> ArrayVec<u64, 2>
-        ensures { result.items ≡ told_of self.now }
+    // What is told with it.
+    pub fn told(&self) -> Told
+        ensures { values result ≡ told_of self.now }
     {
-        let mut told = ArrayVec::new();
         match *self {
-            Refusal::NotADigit { index } => told.push(index as u64),
-            Refusal::WrongCount { count } => told.push(count as u64),
-            Refusal::CheckDiffers => {}
-            Refusal::WrongLength { length, layers } => {
-                told.push(length as u64);
-                told.push(layers as u64);
-            }
+            Refusal::NotADigit { index } => Told::One(index as u64),
+            Refusal::WrongCount { count } => Told::One(count as u64),
+            Refusal::CheckDiffers => Told::Nothing,
+            Refusal::WrongLength { length, layers } => Told::Two(length as u64, layers as u64),
         }
-        told
     }
 }
 
 // `refused`, the number, and the told values in decimal.
 impl fmt::Display for Refusal {
     fn fmt<W: fmt::Write>(&self, f: &mut fmt::Formatter<W>) -> fmt::Result {
-        write!(f, "refused {}", self.number())?;
-        for value in &self.told() {
-            write!(f, " {value}")?;
+        let number = self.number();
+        match self.told() {
+            Told::Nothing => write!(f, "refused {number}"),
+            Told::One(value) => write!(f, "refused {number} {value}"),
+            Told::Two(first, second) => write!(f, "refused {number} {first} {second}"),
         }
-        Ok(())
     }
 }
 

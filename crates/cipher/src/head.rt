@@ -55,6 +55,7 @@ impl<C: Cipher> Cipher for ClearHead<C> {
         check_length(body.len(), head)?;
         self.below
             .cipher(hook, &mut body[head..])
-            .map_err(CipherFault::one_layer_up)
+            .map_err(CipherFault::one_layer_up)?;
+        Ok(())
     }
 }

@@ -2,8 +2,11 @@
 ghost use Rattle.std.specs.Prelude.{◌≡◌, length};
 ghost use Rattle.cipher.specs.Kind.{answers};
 ghost use Rattle.cipher.specs.Trip.{Returns};
+ghost use Rattle.cipher.specs.Head.{headed};
+ghost use Rattle.cipher.specs.declared.head.ClearHead.{ClearHead as Headed};
 
 use crate::fault::CipherFault;
+use crate::head::ClearHead;
 use crate::kind::Cipher;
 
 // Enciphers a body and deciphers it again. Under every cipher that gives the body back, and a refused body stays as it was too.
@@ -15,4 +18,17 @@ pub fn there_and_back<C: Cipher>(cipher: &C, hook: u32, body: &mut [u8]) -> Resu
 {
     cipher.cipher(hook, body)?;
     cipher.cipher(hook, body)
+}
+
+// The same behind a clear head, over any cipher. Of what kind a head is stands here.
+pub fn headed_there_and_back<C: Cipher>(
+    cipher: &ClearHead<C>,
+    hook: u32,
+    body: &mut [u8],
+) -> Result<(), CipherFault>
+    ensures answer { result ≡ answers (headed cipher.now.head (C.Cipher.kind cipher.now.below)) (C.Cipher.keyed cipher.now.below) (length body.old) }
+    ensures back { body.new ≡ body.old }
+    ensures always { Returns (λ (s : Headed C). headed s.head (C.Cipher.kind s.below)) }
+{
+    there_and_back(cipher, hook, body)
 }

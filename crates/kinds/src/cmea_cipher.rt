@@ -1,5 +1,10 @@
 // The CMEA kind: bodies of 2 to 64 bytes, under the CMEA key of the call. It does not look at the HOOK.
+ghost use Rattle.std.specs.Prelude.{◌≡◌, length};
 ghost use Rattle.auth.specs.Keys.{cmea_key_of};
+ghost use Rattle.cipher.specs.Kind.{answers};
+ghost use Rattle.cipher.specs.Trip.{Returns};
+ghost use Rattle.cmea.specs.declared.key.CmeaKey.{CmeaKey as Key};
+ghost use Rattle.kinds.specs.declared.call_cipher.CallCipher.{CallCipher as CipherOf};
 ghost use Rattle.cmea.specs.Ciphering.{image as cmea_image};
 ghost use Rattle.kinds.specs.Kinds.{cmea_kind};
 ghost use Rattle.kinds.specs.Laws.{cmea_effect, cmea_lawful};
@@ -8,6 +13,9 @@ use crate::call_cipher::CallCipher;
 use crate::call_key::CallKey;
 use auth::keys::cmea_key;
 use auth::types::OpeningRecord;
+use cipher::fault::CipherFault;
+use cipher::kind::Cipher;
+use cipher::trip::there_and_back;
 use cmea::key::CmeaKey;
 
 pub type CmeaCipher = CallCipher<CmeaKey>;
@@ -37,4 +45,18 @@ impl CallKey for CmeaKey {
         // CMEA refuses only a body under LEAST, and leaves it
         let _ = self.cipher(body);
     }
+}
+
+// Enciphers a body under CMEA and deciphers it again. Of what kind this cipher is stands here for every value of its type, which a
+// clause writes with the members of its key.
+pub fn cmea_there_and_back(
+    cipher: &CmeaCipher,
+    hook: u32,
+    body: &mut [u8],
+) -> Result<(), CipherFault>
+    ensures answer { result ≡ answers cmea_kind (⟦<CmeaCipher as Cipher>⟧.keyed cipher.now) (length body.old) }
+    ensures back { body.new ≡ body.old }
+    ensures always { Returns (λ (c : CipherOf Key ⟦<CmeaKey as CallKey>⟧). cmea_kind) }
+{
+    there_and_back(cipher, hook, body)
 }

@@ -1,6 +1,6 @@
 // CAVE, the mixing function of TR45.0.A: sixteen byte registers, a 32-bit LFSR and a 256-entry table, run for four or eight
-// rounds. Public: `cave` (a run), `lfsr_cycle` (one cycle of the LFSR), `entry` (of the table), and in `uses` the trait for a use
-// of CAVE with the one eight-round run for every use.
+// rounds. Public: `cave` (a run), `lfsr_cycle` (one cycle of the LFSR), `entry` (of the table), in `side` the two types that the law
+// of a run speaks of, and in `uses` the trait for a use of CAVE with the one eight-round run for every use.
 #![tactic(auto)]
 
 ghost use Rattle.std.specs.Prelude.{◌≡◌, ◌<◌, ◌≤◌};
@@ -10,7 +10,7 @@ ghost use Rattle.cave.specs.Rounds.{rotated, shuffled, round, after_rounds, how_
 ghost use Rattle.cave.specs.Table.{RowsPermute};
 
 pub mod lfsr;
-mod side;
+pub mod side;
 pub mod state;
 pub mod table;
 pub mod uses;

@@ -1,10 +1,11 @@
-// The two sides of a search in the table, and what the tries on one of them leave.
+// The two sides of a search in the table, and what the tries on one of them leave. Public for the law of a run, which speaks of
+// both: a crate above can only name what is public.
 ghost use Rattle.std.specs.Prelude.{◌≡◌};
 ghost use Rattle.cave.specs.Sides.{stage_of, mask_of};
 
 // The low side takes the low half of a table's entry, the high side its high half.
-#[derive(Clone, Copy)]
-pub(crate) enum Side {
+#[derive(Clone, Copy, PartialEq, Eq, Debug)]
+pub enum Side {
     Low,
     High,
 }
@@ -33,8 +34,8 @@ impl Side {
 }
 
 // What the tries on one side leave: the LFSR, the offset, and the half byte found.
-#[derive(Clone, Copy)]
-pub(crate) struct Tried {
+#[derive(Clone, Copy, PartialEq, Eq, Debug)]
+pub struct Tried {
     pub lfsr: u32,
     pub offset: u8,
     pub half: u8,

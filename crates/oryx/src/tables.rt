@@ -98,6 +98,17 @@ fn data_key(ssd_b: u64) -> u32
     a ^ b ^ k
 }
 
+// DataKey and table of a call.
+fn derive(ssd_b: u64, rand: u32) -> OryxCall
+    ensures { result ≡ call_of ssd_b rand }
+{
+    let table = call_table(rand);
+    OryxCall {
+        data_key: data_key(ssd_b),
+        table,
+    }
+}
+
 impl OryxCall {
     // What a call with this SSD_B and this RAND needs.
     pub fn new(ssd_b: u64, rand: u32) -> Self
@@ -105,10 +116,6 @@ impl OryxCall {
         ensures each_once { EachOnce result.table }
         ensures starts_apart { StartsApart result }
     {
-        let table = call_table(rand);
-        OryxCall {
-            data_key: data_key(ssd_b),
-            table,
-        }
+        derive(ssd_b, rand)
     }
 }

@@ -1,10 +1,12 @@
-use Rattle.std.proofs.Common.{arith, rules}
+use Rattle.std.proofs.Common.{◌≤◌, length, arith, rules}
 use Rattle.std.proofs.lemmas.Bool.Decides.{nat_tests}
 use Rattle.entry.proofs.Answer.{answered, outcome}
 use Rattle.entry.proofs.read_entry.Goals as goal
 
 pub returns-in_err-key-clause-says : goal.returns-in_err-key-clause-says
-returns-in_err-key-clause-says c = answered _ _ _ (search rules)
+returns-in_err-key-clause-says c =
+    let most : length c.args.typed.now ≤ 26 = omega arith in
+    answered _ _ _ (search rules)
 
 pub returns-then-check_number-akey_check-clause-result : goal.returns-then-check_number-akey_check-clause-result
 returns-then-check_number-akey_check-clause-result c = grind (arith, nat_tests, outcome c.args.esn c.args.typed.now _ _ _ (search rules) (omega arith) c.in_ok-key.ensures c.check_number.ensures c.akey_check.ensures.result)

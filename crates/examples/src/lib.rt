@@ -19,7 +19,6 @@ fn gives(digits: &[u8], key: u64) -> bool
 }
 
 // Whether the key digits agree.
-#[tactic(auto, unfolding(entry::specs::Digits::first_bad))]
 fn keys_agree() -> bool
     ensures { result ≡ true }
 {

@@ -20,7 +20,7 @@ pub fn there_and_back<C: Cipher>(cipher: &C, hook: u32, body: &mut [u8]) -> Resu
     cipher.cipher(hook, body)
 }
 
-// The same behind a clear head, over any cipher. Of what kind a head is stands here.
+// The same behind a clear head, over any cipher. Its clauses say of which kind a head is, which no other contract does.
 pub fn headed_there_and_back<C: Cipher>(
     cipher: &ClearHead<C>,
     hook: u32,

@@ -47,8 +47,8 @@ impl CallKey for CmeaKey {
     }
 }
 
-// Enciphers a body under CMEA and deciphers it again. Of what kind this cipher is stands here for every value of its type, which a
-// clause writes with the members of its key.
+// Enciphers a body under CMEA and deciphers it again. Its clauses say of which kind such a cipher is, which no other contract does.
+// A clause writes the type as `CipherOf Key`, with the members of the key.
 pub fn cmea_there_and_back(
     cipher: &CmeaCipher,
     hook: u32,

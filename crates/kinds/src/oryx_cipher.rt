@@ -44,8 +44,8 @@ impl CallKey for OryxCall {
     }
 }
 
-// Enciphers a body under ORYX and deciphers it again. Of what kind this cipher is stands here for every value of its type, which a
-// clause writes with the members of its key.
+// Enciphers a body under ORYX and deciphers it again. Its clauses say of which kind such a cipher is, which no other contract does.
+// A clause writes the type as `CipherOf Key`, with the members of the key.
 pub fn oryx_there_and_back(
     cipher: &OryxCipher,
     hook: u32,
